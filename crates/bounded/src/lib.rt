@@ -1,0 +1,4 @@
+pub mod clones;
+pub mod equality;
+pub mod list;
+pub mod ops;
