@@ -1,0 +1,5 @@
+pub mod column;
+pub mod error;
+pub mod first;
+pub mod name;
+pub mod table_reference;
