@@ -6,10 +6,8 @@ use mathlib.Core.List.{List, [], _∷_, _++_, map}
 use Prim.Native.Nat.{ℕ, _+_, _<_, _≤_}
 use native.Mathlib.Omega.{arith}
 use lib.ListN.{length, take, drop, getD, set}
-use Rattle.std.specs.shelf.Lawful.{all-pass}
 use Rattle.std.proofs.shelf.Lists.{getD-map, length-set, length-map, length-take-le, map-set, take-all, drop-all, append-nil, drop-more, getD-at}
 use Rattle.std.proofs.shelf.Edits.{map-over-more}
-use Rattle.bounded.proofs.Tests.{all-pass-more, all-pass-fails}
 
 pub record Over {X Y : Type 0} (v : X → Y) (g : Y → Y) (xs ys : List X) (i : ℕ) : Type 0 where
   pub seen : map v ys ≡ map g (take i (map v xs)) ++ drop i (map v xs)

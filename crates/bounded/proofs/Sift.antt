@@ -37,7 +37,7 @@ module _ {X Y : Type 0} {v : X → Y} {p : Y → Bool} {g : Y → Y} where
       let front = kept-by p (take i (map v xs)) in
       record {
         front = ap (λ l. map v (take (k + 1) l)) stored ∙ ap (map v) (take-more-set ys k y room) ∙ map-append v (take k ys) (y ∷ []) ∙ ap (λ l. l ++ v y ∷ []) (s .front) ∙ ap (λ z. map g front ++ z ∷ []) is
-        ∙ sym (ap (map g) (more v p xs i x h here true on) ∙ map-append g front (v x ∷ []));
+            ∙ sym (ap (map g) (more v p xs i x h here true on) ∙ map-append g front (v x ∷ []));
         behind = omega (arith, s .behind);
         long = ap length stored ∙ length-set ys k y ∙ s .long;
       }

@@ -1,0 +1,2 @@
+pub mod column_list;
+pub mod functional_dependencies;

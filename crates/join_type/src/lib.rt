@@ -1,0 +1,176 @@
+ghost use mathlib.Core.Path.{_≡_};
+ghost use mathlib.Core.Bool.{true};
+ghost use Rattle.join_type.specs.Table.{recordOf, nameOf, numberOf, Ruled, ruled};
+use std::fmt;
+
+/// How a join combines the rows of its two sides.
+#[derive(Clone, Copy, PartialEq, Eq, Debug)]
+pub enum JoinType {
+    Inner,
+    Left,
+    Right,
+    Full,
+    LeftSemi,
+    RightSemi,
+    LeftAnti,
+    RightAnti,
+    LeftMark,
+    RightMark,
+}
+
+/// What is known of one join type.
+#[derive(Clone, Copy, PartialEq, Eq, Debug)]
+pub struct JoinRecord {
+    pub join_type: JoinType,
+    /// The type of the join with its sides exchanged.
+    pub swap: JoinType,
+    /// Whether unmatched rows are padded with nulls.
+    pub outer: bool,
+    /// Whether a filter of the condition may be pushed below the left side.
+    pub left_preserved: bool,
+    /// Whether a filter of the condition may be pushed below the right side.
+    pub right_preserved: bool,
+}
+
+/// The ten join types, each at its own number.
+pub const JOIN_TYPES: [JoinRecord; 10] = [
+    JoinRecord {
+        join_type: JoinType::Inner,
+        swap: JoinType::Inner,
+        outer: false,
+        left_preserved: true,
+        right_preserved: true,
+    },
+    JoinRecord {
+        join_type: JoinType::Left,
+        swap: JoinType::Right,
+        outer: true,
+        left_preserved: false,
+        right_preserved: true,
+    },
+    JoinRecord {
+        join_type: JoinType::Right,
+        swap: JoinType::Left,
+        outer: true,
+        left_preserved: true,
+        right_preserved: false,
+    },
+    JoinRecord {
+        join_type: JoinType::Full,
+        swap: JoinType::Full,
+        outer: true,
+        left_preserved: false,
+        right_preserved: false,
+    },
+    JoinRecord {
+        join_type: JoinType::LeftSemi,
+        swap: JoinType::RightSemi,
+        outer: false,
+        left_preserved: true,
+        right_preserved: true,
+    },
+    JoinRecord {
+        join_type: JoinType::RightSemi,
+        swap: JoinType::LeftSemi,
+        outer: false,
+        left_preserved: true,
+        right_preserved: true,
+    },
+    JoinRecord {
+        join_type: JoinType::LeftAnti,
+        swap: JoinType::RightAnti,
+        outer: false,
+        left_preserved: false,
+        right_preserved: true,
+    },
+    JoinRecord {
+        join_type: JoinType::RightAnti,
+        swap: JoinType::LeftAnti,
+        outer: false,
+        left_preserved: true,
+        right_preserved: false,
+    },
+    JoinRecord {
+        join_type: JoinType::LeftMark,
+        swap: JoinType::RightMark,
+        outer: false,
+        left_preserved: false,
+        right_preserved: true,
+    },
+    JoinRecord {
+        join_type: JoinType::RightMark,
+        swap: JoinType::LeftMark,
+        outer: false,
+        left_preserved: true,
+        right_preserved: false,
+    },
+];
+
+impl JoinType {
+    /// The place of the type in the table.
+    pub fn number(self) -> u8
+        ensures { λ r. ⌜ r ≡ numberOf self ⌝ }
+    {
+        self as u8
+    }
+
+    pub fn record(self) -> JoinRecord
+        ensures { λ r. ⌜ r ≡ recordOf self ⌝ }
+    {
+        JOIN_TYPES[self as usize]
+    }
+
+    pub fn is_outer(self) -> bool
+        ensures { λ r. ⌜ r ≡ recordOf self .outer ⌝ }
+    {
+        self.record().outer
+    }
+
+    /// The type of the join with its sides exchanged.
+    pub fn swap(self) -> JoinType
+        ensures value { λ r. ⌜ r ≡ recordOf self .swap ⌝ }
+        ensures rules { λ r. ⌜ Ruled self r ⌝ }
+    {
+        self.record().swap
+    }
+
+    /// For the left and the right side, whether a filter of the condition may be pushed below it.
+    pub fn on_lr_is_preserved(self) -> (bool, bool)
+        ensures left { λ r. ⌜ r .0 ≡ recordOf self .«left_preserved» ⌝ }
+        ensures right { λ r. ⌜ r .1 ≡ recordOf self .«right_preserved» ⌝ }
+    {
+        let record = self.record();
+        (record.left_preserved, record.right_preserved)
+    }
+
+    pub fn name(self) -> &'static str
+        ensures { λ r. ⌜ now r ≡ nameOf self ⌝ }
+    {
+        match self {
+            JoinType::Inner => "Inner",
+            JoinType::Left => "Left",
+            JoinType::Right => "Right",
+            JoinType::Full => "Full",
+            JoinType::LeftSemi => "LeftSemi",
+            JoinType::RightSemi => "RightSemi",
+            JoinType::LeftAnti => "LeftAnti",
+            JoinType::RightAnti => "RightAnti",
+            JoinType::LeftMark => "LeftMark",
+            JoinType::RightMark => "RightMark",
+        }
+    }
+}
+
+/// The table keeps its rules, by one test over the constant itself; the answer is the number of its records.
+pub fn table_rules() -> usize
+    ensures { λ _. do ⌜ ruled (← ⟦JOIN_TYPES⟧ .exit) ≡ true ⌝ }
+{
+    JOIN_TYPES.len()
+}
+
+pub impl fmt::Display for JoinType as JoinTypeDisplay {
+    fn fmt<W: fmt::Write>(&self, f: &mut fmt::Formatter<W>) -> fmt::Result {
+        let name = self.name();
+        write!(f, "{name}")
+    }
+}
