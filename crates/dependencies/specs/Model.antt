@@ -2,9 +2,11 @@
 use mathlib.Core.List.{List, [], _∷_, _++_, map}
 use mathlib.Core.Bool.{Bool, true, false, not, cond, _&&_}
 use Prim.Native.Nat.{ℕ, _+_}
+use lib.Chars.{codes}
 use lib.Dec.{ltb, eqb}
 use lib.ListN.{length}
 use Rattle.std.specs.Iters.{counting}
+use Rattle.std.specs.shelf.Lists.{kept-by}
 use Rattle.std.specs.shelf.Lawful.{all-pass}
 use Rattle.std.specs.declared.option.Option.{Option}
 use Rattle.std.specs.declared.option.Option.the-variants.{Some, None}
@@ -14,6 +16,23 @@ use Rattle.names.specs.Refusals.{refusedIf}
 use Rattle.dependencies.specs.declared.functional_dependencies.Dependency.{Dependency}
 use Rattle.dependencies.specs.declared.functional_dependencies.Dependency.the-variants.{Single, Multi}
 
+abbrev pub modeName : Dependency → List ℕ
+modeName Single = codes "Single"
+modeName Multi = codes "Multi"
+
+-- the source columns fix the target columns
+pub record Dep : Type 0 where
+  pub sources : List ℕ
+  pub targets : List ℕ
+  pub nullable : Bool
+  pub mode : Dependency
+
+abbrev pub dependence : List ℕ → List ℕ → Bool → Dependency → Dep
+dependence s t n m = record { sources = s; targets = t; nullable = n; mode = m }
+
+abbrev pub withMode : Dependency → Dep → Dep
+withMode m d = dependence (d .sources) (d .targets) (d .nullable) m
+
 -- a width of more than 64 columns
 abbrev pub oversizeWidth : ℕ → Option Refusal
 oversizeWidth n = refusedIf (ltb 64 n) Oversize None
@@ -21,6 +40,10 @@ oversizeWidth n = refusedIf (ltb 64 n) Oversize None
 -- a list with no room for one entry more
 abbrev pub fullAt : {X : Type 0} → ℕ → List X → Option Refusal
 fullAt n xs = refusedIf (not (ltb (length xs) n)) Oversize None
+
+-- two sets with more than 32 dependencies between them
+abbrev pub oversizeTogether : List Dep → List Dep → Option Refusal
+oversizeTogether ds es = refusedIf (ltb 32 (length ds + length es)) Oversize None
 
 -- a column number that is still one when k is added
 abbrev pub fits : ℕ → ℕ → Bool
@@ -31,3 +54,26 @@ shifted k cs = map (λ c. c + k) cs
 
 abbrev pub overrunAt : ℕ → List ℕ → Option Refusal
 overrunAt k cs = refusedIf (not (all-pass (fits k) cs)) Overrun None
+
+abbrev pub fitsDep : ℕ → Dep → Bool
+fitsDep k d = all-pass (fits k) (d .sources) && all-pass (fits k) (d .targets)
+
+abbrev pub offsetBy : ℕ → Dep → Dep
+offsetBy k d = dependence (shifted k (d .sources)) (shifted k (d .targets)) (d .nullable) (d .mode)
+
+abbrev pub overrun : ℕ → Dep → Option Refusal
+overrun k d = refusedIf (not (fitsDep k d)) Overrun None
+
+abbrev pub overrunAny : ℕ → List Dep → Option Refusal
+overrunAny k ds = refusedIf (not (all-pass (fitsDep k) ds)) Overrun None
+
+-- a dependency that rows of nulls do not break: it is not nullable and has a source
+abbrev pub survivesNulls : Dep → Bool
+survivesNulls d = not (d .nullable) && not (eqb (length (d .sources)) 0)
+
+abbrev pub nullableDep : Dep → Dep
+nullableDep d = dependence (d .sources) (d .targets) true (d .mode)
+
+-- what is left of a side that a join pads with nulls
+abbrev pub padded : List Dep → List Dep
+padded ds = map nullableDep (kept-by survivesNulls ds)

@@ -1,2 +1,4 @@
 pub mod column_list;
+pub mod constraints;
 pub mod functional_dependencies;
+pub mod join;

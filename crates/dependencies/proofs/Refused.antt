@@ -1,0 +1,18 @@
+-- A refusal by one test.
+use mathlib.Core.Path.{_≡_, refl}
+use mathlib.Core.Bool.{Bool, true, false}
+use Prim.Native.Nat.{ℕ}
+use native.Mathlib.Omega.{arith}
+use Rattle.std.specs.declared.option.Option.the-variants.{Some, None}
+use Rattle.names.specs.declared.error.Refusal.{Refusal}
+use Rattle.names.specs.Refusals.{refusedIf}
+
+-- where one test refuses, another that holds then refuses alike
+pub refused-too : (b b′ : Bool) (e given : Refusal) → (b ≡ true → b′ ≡ true) → refusedIf b e None ≡ Some given → refusedIf b′ e None ≡ Some given
+refused-too true true e given h r = r
+refused-too true false e given h r = absurd (let z : _≡_ {A = ℕ} 0 1 = cc (h refl) in omega arith)
+refused-too false b′ e given h r = absurd (let z : _≡_ {A = ℕ} 0 1 = cc in omega arith)
+
+pub not-refused : (b : Bool) (e : Refusal) → refusedIf b e None ≡ None → b ≡ false
+not-refused true e r = absurd (let z : _≡_ {A = ℕ} 0 1 = cc in omega arith)
+not-refused false e r = refl
