@@ -16,3 +16,7 @@ refused-too false b′ e given h r = absurd (let z : _≡_ {A = ℕ} 0 1 = cc in
 pub not-refused : (b : Bool) (e : Refusal) → refusedIf b e None ≡ None → b ≡ false
 not-refused true e r = absurd (let z : _≡_ {A = ℕ} 0 1 = cc in omega arith)
 not-refused false e r = refl
+
+pub was-refused : (b : Bool) (e given : Refusal) → refusedIf b e None ≡ Some given → b ≡ true
+was-refused true e given r = refl
+was-refused false e given r = absurd (let z : _≡_ {A = ℕ} 0 1 = cc in omega arith)

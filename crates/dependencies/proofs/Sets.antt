@@ -1,5 +1,5 @@
 -- Sets of dependencies as the lists that they stand for: what an entry more, or more entries, make of the list.
-use mathlib.Core.Path.{_≡_, sym, ap, _∙_}
+use mathlib.Core.Path.{_≡_}
 use mathlib.Core.List.{List, [], _∷_, _++_, map}
 use native.Mathlib.Omega.{arith}
 use Prim.Native.Nat.{ℕ, _+_, _<_, _≤_}
@@ -9,7 +9,7 @@ use Rattle.std.proofs.shelf.Lists.{length-map, map-append}
 use Rattle.std.proofs.shelf.Tests.{cond-true, cond-false, lt-ltb, le-ltb, not-from-true, not-from-false}
 use Rattle.names.specs.declared.error.Refusal.the-variants.{Oversize}
 use Rattle.names.specs.Refusals.{oversizeOver}
-use Rattle.dependencies.specs.Model.{fullAt}
+use Rattle.dependencies.specs.Model.{fullAt, oversizeTogether}
 
 module _ {X Y : Type 0} (v : X → Y) (n : ℕ) where
   pub fits-in : (xs : List X) → length xs ≤ n → oversizeOver n (map v xs) ≡ None
@@ -23,3 +23,9 @@ module _ {X Y : Type 0} (v : X → Y) (n : ℕ) where
 
   pub is-full : (xs : List X) → length xs ≡ n → fullAt n (map v xs) ≡ Some Oversize
   is-full xs h = cond-true _ _ _ (not-from-false _ (le-ltb _ n (omega (arith, length-map xs v))))
+
+  pub fit-together : (xs ys : List X) → length xs + length ys ≤ n → oversizeTogether n (map v xs) (map v ys) ≡ None
+  fit-together xs ys h = cond-false _ _ _ (le-ltb n _ (omega (arith, length-map xs v, length-map ys v)))
+
+  pub pass-together : (xs ys : List X) → n < length xs + length ys → oversizeTogether n (map v xs) (map v ys) ≡ Some Oversize
+  pass-together xs ys h = cond-true _ _ _ (lt-ltb n _ (omega (arith, length-map xs v, length-map ys v)))

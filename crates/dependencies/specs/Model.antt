@@ -41,9 +41,9 @@ oversizeWidth n = refusedIf (ltb 64 n) Oversize None
 abbrev pub fullAt : {X : Type 0} → ℕ → List X → Option Refusal
 fullAt n xs = refusedIf (not (ltb (length xs) n)) Oversize None
 
--- two sets with more than 32 dependencies between them
-abbrev pub oversizeTogether : List Dep → List Dep → Option Refusal
-oversizeTogether ds es = refusedIf (ltb 32 (length ds + length es)) Oversize None
+-- two lists with more than n entries between them
+abbrev pub oversizeTogether : {X : Type 0} → ℕ → List X → List X → Option Refusal
+oversizeTogether n xs ys = refusedIf (ltb n (length xs + length ys)) Oversize None
 
 -- a column number that is still one when k is added
 abbrev pub fits : ℕ → ℕ → Bool

@@ -182,7 +182,7 @@ impl FunctionalDependencies {
 
     /// Merges the other dependencies with these, or changes nothing.
     pub fn extend(&mut self, other: &FunctionalDependencies) -> Result<(), Refusal>
-        ensures { λ r. ⌜ AnswersOr r (oversizeTogether (depsOf (now (self .entry))) (depsOf (now (other .entry)))) (λ _. depsOf (now (self .exit)) ≡ depsOf (now (self .entry)) ++ depsOf (now (other .entry))) (now (self .exit) ≡ now (self .entry)) ⌝ }
+        ensures { λ r. ⌜ AnswersOr r (oversizeTogether 32 (depsOf (now (self .entry))) (depsOf (now (other .entry)))) (λ _. depsOf (now (self .exit)) ≡ depsOf (now (self .entry)) ++ depsOf (now (other .entry))) (now (self .exit) ≡ now (self .entry)) ⌝ }
     {
         match self.deps.extend_from_slice(other.deps.as_slice()) {
             Ok(()) => Ok(()),
