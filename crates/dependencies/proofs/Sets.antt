@@ -1,3 +1,4 @@
+use Rattle.columns.specs.Columns.{fullAt, oversizeTogether}
 -- Sets of dependencies as the lists that they stand for: what an entry more, or more entries, make of the list.
 use mathlib.Core.Path.{_≡_}
 use mathlib.Core.List.{List, [], _∷_, _++_, map}
@@ -9,7 +10,6 @@ use Rattle.std.proofs.shelf.Lists.{length-map, map-append}
 use Rattle.std.proofs.shelf.Tests.{cond-true, cond-false, lt-ltb, le-ltb, not-from-true, not-from-false}
 use Rattle.names.specs.declared.error.Refusal.the-variants.{Oversize}
 use Rattle.names.specs.Refusals.{oversizeOver}
-use Rattle.dependencies.specs.Model.{fullAt, oversizeTogether}
 
 module _ {X Y : Type 0} (v : X → Y) (n : ℕ) where
   pub fits-in : (xs : List X) → length xs ≤ n → oversizeOver n (map v xs) ≡ None

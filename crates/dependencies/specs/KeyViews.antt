@@ -4,8 +4,8 @@ use Rattle.std.specs.declared.option.Option.{Option}
 use Rattle.std.specs.declared.option.Option.the-variants.{Some, None}
 use Rattle.bounded.specs.View.{listOf}
 use Rattle.bounded.specs.declared.list.Bounded.{Bounded}
+use Rattle.columns.specs.Columns.{columnsOf}
 use Rattle.dependencies.specs.Keys.{Key, primaryKey, uniqueKey}
-use Rattle.dependencies.specs.View.{columnsOf}
 use Rattle.dependencies.specs.declared.constraints.Constraint.{Constraint}
 use Rattle.dependencies.specs.declared.constraints.Constraint.the-variants.{PrimaryKey, Unique}
 use Rattle.dependencies.specs.declared.constraints.Constraints.{Constraints}

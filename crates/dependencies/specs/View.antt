@@ -4,13 +4,9 @@ use Prim.Native.Nat.{ℕ}
 use Rattle.bounded.specs.View.{listOf}
 use Rattle.bounded.specs.declared.list.Bounded.{Bounded}
 use Rattle.dependencies.specs.Model.{Dep, dependence}
-use Rattle.dependencies.specs.declared.column_list.ColumnList.{ColumnList}
+use Rattle.columns.specs.Columns.{columnsOf}
 use Rattle.dependencies.specs.declared.functional_dependencies.FunctionalDependence.{FunctionalDependence}
 use Rattle.dependencies.specs.declared.functional_dependencies.FunctionalDependencies.{FunctionalDependencies}
-
--- the column numbers of a list
-abbrev pub columnsOf : ColumnList → List ℕ
-columnsOf l = listOf (l .columns)
 
 abbrev pub depOf : FunctionalDependence → Dep
 depOf d = dependence (columnsOf (d .«source_indices»)) (columnsOf (d .«target_indices»)) (d .nullable) (d .mode)

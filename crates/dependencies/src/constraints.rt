@@ -6,19 +6,19 @@ ghost use Rattle.std.specs.Iters.{counting};
 ghost use Rattle.std.specs.Options.{mapped};
 ghost use Rattle.std.specs.Orderings.{Decides};
 ghost use Rattle.names.specs.Refusals.{Answers, AnswersOr, oversizeOver};
+ghost use Rattle.columns.specs.Columns.{oversizeTogether, columnsOf};
 ghost use Rattle.dependencies.specs.Keys.{keyDependency, oversizeKeys};
 ghost use Rattle.dependencies.specs.KeyViews.{keyOf, keysOf, keysOr};
-ghost use Rattle.dependencies.specs.Model.{oversizeTogether};
-ghost use Rattle.dependencies.specs.View.{columnsOf, depOf, depsOf};
-use crate::column_list::ColumnList;
-use crate::column_list::ColumnListPartialEq;
-use crate::column_list::MAX_COLUMNS;
+ghost use Rattle.dependencies.specs.View.{depOf, depsOf};
 use crate::functional_dependencies::Dependency;
 use crate::functional_dependencies::FunctionalDependence;
 use crate::functional_dependencies::FunctionalDependencies;
 use bounded::clones::BoundedClone;
 use bounded::equality::BoundedPartialEq;
 use bounded::list::Bounded;
+use columns::column_list::ColumnList;
+use columns::column_list::ColumnListPartialEq;
+use columns::column_list::MAX_COLUMNS;
 use names::error::Refusal;
 
 /// The most entries of a list of keys.

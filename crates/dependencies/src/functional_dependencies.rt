@@ -4,13 +4,14 @@ ghost use Prim.Native.Nat.{_≤_};
 ghost use lib.ListN.{length};
 ghost use Rattle.std.specs.Orderings.{Decides};
 ghost use Rattle.names.specs.Refusals.{Answers, AnswersOr, oversizeOver};
-ghost use Rattle.dependencies.specs.Model.{modeName, dependence, withMode, offsetBy, overrun, overrunAny, oversizeTogether, fullAt, survivesNulls, padded};
-ghost use Rattle.dependencies.specs.View.{columnsOf, depOf, depsOf};
-use crate::column_list::ColumnList;
-use crate::column_list::ColumnListPartialEq;
+ghost use Rattle.columns.specs.Columns.{oversizeTogether, fullAt, columnsOf};
+ghost use Rattle.dependencies.specs.Model.{modeName, dependence, withMode, offsetBy, overrun, overrunAny, survivesNulls, padded};
+ghost use Rattle.dependencies.specs.View.{depOf, depsOf};
 use bounded::clones::BoundedClone;
 use bounded::equality::BoundedPartialEq;
 use bounded::list::Bounded;
+use columns::column_list::ColumnList;
+use columns::column_list::ColumnListPartialEq;
 use names::error::Refusal;
 
 /// The most dependencies of a schema.

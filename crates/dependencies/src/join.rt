@@ -2,10 +2,10 @@ ghost use mathlib.Core.Path.{_≡_};
 ghost use Rattle.names.specs.Refusals.{Answers};
 ghost use Rattle.dependencies.specs.Joins.{joined, joinedSides, joinRefusal, sidesRefusal};
 ghost use Rattle.dependencies.specs.View.{depsOf};
-use crate::column_list::MAX_COLUMNS;
 use crate::functional_dependencies::Dependency;
 use crate::functional_dependencies::FunctionalDependencies;
 use crate::functional_dependencies::MAX_DEPENDENCIES;
+use columns::column_list::MAX_COLUMNS;
 use join_type::JoinType;
 use names::error::Refusal;
 

@@ -11,10 +11,11 @@ use Rattle.std.proofs.shelf.Tests.{not-true, ltb-false, lt-ltb, le-ltb, cond-fa
 use Rattle.names.specs.declared.error.Refusal.the-variants.{Oversize}
 use Rattle.bounded.specs.View.{listOf}
 use Rattle.bounded.proofs.Lists.{few-listOf}
+use Rattle.columns.specs.Columns.{columnsOf}
 use Rattle.dependencies.specs.Keys.{keyDependency}
 use Rattle.dependencies.specs.KeyViews.{keyOf, keysOf}
 use Rattle.dependencies.specs.Model.{Dep}
-use Rattle.dependencies.specs.View.{columnsOf, depOf, depsOf}
+use Rattle.dependencies.specs.View.{depOf, depsOf}
 use Rattle.dependencies.specs.declared.constraints.Constraint.{Constraint}
 use Rattle.dependencies.proofs.Refused.{refused-too}
 use Rattle.dependencies.proofs.constraints.Constraints.dependencies.Needs as need

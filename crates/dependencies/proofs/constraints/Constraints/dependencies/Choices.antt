@@ -1,9 +1,10 @@
 use mathlib.Core.Path.{_≡_}
 use mathlib.Core.List.{map}
 use lib.ListN.{take}
+use Rattle.columns.specs.Columns.{columnsOf}
 use Rattle.dependencies.specs.Keys.{keyDependency}
 use Rattle.dependencies.specs.KeyViews.{keyOf}
-use Rattle.dependencies.specs.View.{columnsOf, depsOf}
+use Rattle.dependencies.specs.View.{depsOf}
 use Rattle.dependencies.proofs.constraints.Constraints.dependencies.Given as given
 
 abbrev pub Inv-loop-constraint : given.InvT-loop-constraint

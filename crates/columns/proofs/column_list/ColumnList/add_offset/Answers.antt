@@ -9,9 +9,9 @@ use Rattle.std.proofs.shelf.Ways.{tells}
 use Rattle.names.specs.Refusals.{refusedIf}
 use Rattle.names.specs.declared.error.Refusal.the-variants.{Overrun}
 use Rattle.bounded.proofs.Tried.{tried-none, tried-more, tried-passes, tried-all, tried-fails}
-use Rattle.dependencies.specs.Model.{fits, shifted, overrunAt}
-use Rattle.dependencies.specs.View.{columnsOf}
-use Rattle.dependencies.proofs.column_list.ColumnList.add_offset.Needs as need
+use Rattle.columns.specs.Columns.{fits, shifted, overrunAt}
+use Rattle.columns.specs.Columns.{columnsOf}
+use Rattle.columns.proofs.column_list.ColumnList.add_offset.Needs as need
 
 pub loop-i-holds : need.loop-i-holds
 loop-i-holds c = rw (c .as-slice-column-items .ensures .value) (tried-none (columnsOf (c .args .self .now)))

@@ -5,7 +5,7 @@ use lib.ListN.{length}
 use Rattle.std.specs.Iters.{counting}
 use Rattle.std.proofs.shelf.Lists.{map-id}
 use Rattle.std.proofs.shelf.Counted.{length-counting, map-counting-more}
-use Rattle.dependencies.proofs.column_list.ColumnList.all.Needs as need
+use Rattle.columns.proofs.column_list.ColumnList.all.Needs as need
 
 pub loop-column-again : need.loop-column-again
 loop-column-again c =
