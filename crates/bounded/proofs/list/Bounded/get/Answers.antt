@@ -9,5 +9,5 @@ returns-then-i-self g c =
     let self = c .args .self .now in
     let i = c .args .i in (
       omega (arith, length-listOf self),
-      λ d. getD-take (self .len) (self .items) i d (omega arith) ∙ getD-default (self .items) i d (c .index-self-i .result) (omega arith),
+      λ d. getD-take (self .len) (self .items) i d (omega arith) ∙ getD-default (self .items) i d _ (omega arith),
     )
