@@ -78,3 +78,7 @@ pub impl PartialEq<FullName> for FullName as FullNamePartialEq {
         self.as_bytes() == other.as_bytes()
     }
 }
+
+pub impl Eq for Name as NameEq {}
+
+pub impl Eq for FullName as FullNameEq {}
