@@ -2,4 +2,5 @@ pub mod column;
 pub mod error;
 pub mod first;
 pub mod name;
+pub mod order;
 pub mod table_reference;
