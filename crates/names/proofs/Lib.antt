@@ -1,1 +1,2 @@
 mod Equal
+mod Pointed

@@ -1,3 +1,4 @@
+pub mod Columns
 pub mod Names
 pub mod Order
 pub mod References
