@@ -1,4 +1,5 @@
 pub mod column;
+pub mod display;
 pub mod error;
 pub mod first;
 pub mod name;
