@@ -81,36 +81,27 @@ pub impl fmt::Display for SchemaError as SchemaErrorDisplay {
     }
 }
 
-fn phrase(refusal: &Refusal) -> &'static str {
-    match refusal {
-        Refusal::Standing => "the step is set already",
-        Refusal::Oversize => "more entries than fit",
-        Refusal::Overrun => "a column number over 65535",
-        Refusal::NoColumn => "a column number past the last column",
-        Refusal::Schema(error) => error.word(),
-        Refusal::SameText => "two columns have the same full name",
-        Refusal::EmptyKey => "a key lists no column",
-        Refusal::WrongKind => "a value of the wrong kind or out of range",
-        Refusal::ShortCells => "the cells are not rows times columns",
-        Refusal::BrokenKey => "two rows agree on a key, or a primary key cell is null",
-        Refusal::Crowded => "more than 256 groups",
-        Refusal::LongWalk => "more than 1000000 rows to group",
-        Refusal::NoRow => "a cell is read while on no row",
-    }
-}
-
 // Number, word and the column, or else what is wrong.
 pub impl fmt::Display for Refusal as RefusalDisplay {
     fn fmt<W: fmt::Write>(&self, f: &mut fmt::Formatter<W>) -> fmt::Result {
-        match self {
-            Refusal::Schema(error) => write!(f, "{error}"),
-            _ => {
-                let number = self.number();
-                let word = self.word();
-                let phrase = phrase(self);
-                write!(f, "{number} {word}: {phrase}")
-            }
-        }
+        let wrong = match self {
+            Refusal::Schema(error) => return write!(f, "{error}"),
+            Refusal::Standing => "the step is set already",
+            Refusal::Oversize => "more entries than fit",
+            Refusal::Overrun => "a column number over 65535",
+            Refusal::NoColumn => "a column number past the last column",
+            Refusal::SameText => "two columns have the same full name",
+            Refusal::EmptyKey => "a key lists no column",
+            Refusal::WrongKind => "a value of the wrong kind or out of range",
+            Refusal::ShortCells => "the cells are not rows times columns",
+            Refusal::BrokenKey => "two rows agree on a key, or a primary key cell is null",
+            Refusal::Crowded => "more than 256 groups",
+            Refusal::LongWalk => "more than 1000000 rows to group",
+            Refusal::NoRow => "a cell is read while on no row",
+        };
+        let number = self.number();
+        let word = self.word();
+        write!(f, "{number} {word}: {wrong}")
     }
 }
 

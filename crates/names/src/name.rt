@@ -7,7 +7,6 @@ ghost use Rattle.names.specs.Refusals.{Answers, oversizeOver};
 use crate::error::Refusal;
 use bounded::clones::BoundedClone;
 use bounded::list::Bounded;
-use std::fmt;
 
 /// The most bytes of one part of a name.
 pub const NAME_BYTES: usize = 32;
