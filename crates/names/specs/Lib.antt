@@ -1,3 +1,6 @@
+pub mod Columns
+pub mod Named
 pub mod Names
+pub mod Order
 pub mod References
 pub mod Refusals

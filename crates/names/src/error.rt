@@ -1,9 +1,15 @@
 ghost use mathlib.Core.Path.{_≡_};
+ghost use Rattle.std.specs.Orderings.{Decides};
+ghost use Rattle.names.specs.Named.{missingOf, schemaOf, schemaErrorOf, refusalOf};
 ghost use Rattle.names.specs.Refusals.{numberOf, wordOf, schemaNumber, schemaWord};
 use crate::column::Column;
+use crate::column::ColumnPartialEq;
 use crate::name::FullName;
+use crate::name::FullNamePartialEq;
 use crate::name::Name;
+use crate::name::NamePartialEq;
 use crate::table_reference::TableReference;
+use crate::table_reference::TableReferencePartialEq;
 
 /// What was looked for and not found: a column, or a full name as it was given.
 #[derive(Clone, Copy)]
@@ -116,4 +122,70 @@ impl Refusal {
             Refusal::NoRow => "no row",
         }
     }
+
+    /// The schema error, where the refusal is one.
+    pub fn schema_error(&self) -> Option<SchemaError>
+        ensures { λ r. ⌜ r ≡ schemaErrorOf (now (self .entry)) ⌝ }
+    {
+        match self {
+            Refusal::Schema(error) => Some(*error),
+            _ => None,
+        }
+    }
 }
+
+pub impl PartialEq<MissingField> for MissingField as MissingFieldPartialEq {
+    ghost equals = { λ a b r. Decides r (missingOf a ≡ missingOf b) };
+
+    fn eq(&self, other: &MissingField) -> bool {
+        match (self, other) {
+            (MissingField::Column(a), MissingField::Column(b)) => *a == *b,
+            (MissingField::FullName(a), MissingField::FullName(b)) => *a == *b,
+            _ => false,
+        }
+    }
+}
+
+pub impl Eq for MissingField as MissingFieldEq {}
+
+pub impl PartialEq<SchemaError> for SchemaError as SchemaErrorPartialEq {
+    ghost equals = { λ a b r. Decides r (schemaOf a ≡ schemaOf b) };
+
+    fn eq(&self, other: &SchemaError) -> bool {
+        match (self, other) {
+            (
+                SchemaError::AmbiguousReference { field: a },
+                SchemaError::AmbiguousReference { field: b },
+            ) => *a == *b,
+            (
+                SchemaError::DuplicateQualifiedField {
+                    qualifier: q,
+                    name: a,
+                },
+                SchemaError::DuplicateQualifiedField {
+                    qualifier: p,
+                    name: b,
+                },
+            ) => *q == *p && *a == *b,
+            (
+                SchemaError::DuplicateUnqualifiedField { name: a },
+                SchemaError::DuplicateUnqualifiedField { name: b },
+            ) => *a == *b,
+            (SchemaError::FieldNotFound { field: a }, SchemaError::FieldNotFound { field: b }) => *a
+                == *b,
+            _ => false,
+        }
+    }
+}
+
+pub impl Eq for SchemaError as SchemaErrorEq {}
+
+pub impl PartialEq<Refusal> for Refusal as RefusalPartialEq {
+    ghost equals = { λ a b r. Decides r (refusalOf a ≡ refusalOf b) };
+
+    fn eq(&self, other: &Refusal) -> bool {
+        self.number() == other.number() && self.schema_error() == other.schema_error()
+    }
+}
+
+pub impl Eq for Refusal as RefusalEq {}

@@ -7,7 +7,6 @@ ghost use Rattle.names.specs.Refusals.{Answers, oversizeOver};
 use crate::error::Refusal;
 use bounded::clones::BoundedClone;
 use bounded::list::Bounded;
-use std::fmt;
 
 /// The most bytes of one part of a name.
 pub const NAME_BYTES: usize = 32;
@@ -78,3 +77,7 @@ pub impl PartialEq<FullName> for FullName as FullNamePartialEq {
         self.as_bytes() == other.as_bytes()
     }
 }
+
+pub impl Eq for Name as NameEq {}
+
+pub impl Eq for FullName as FullNameEq {}
