@@ -1,2 +1,3 @@
 mod Equal
 mod Pointed
+pub mod Refused

@@ -5,6 +5,7 @@ use crate::error::SchemaError;
 use crate::name::FullName;
 use crate::name::Name;
 use crate::table_reference::TableReference;
+use std::error::Error;
 use std::fmt;
 
 // Each byte of a name for people to read: one that cannot be shown, and the backslash, as \x and two digits.
@@ -147,3 +148,5 @@ pub impl fmt::Debug for Refusal as RefusalDebug {
         write!(f, "{self}")
     }
 }
+
+pub impl Error for Refusal as RefusalError {}

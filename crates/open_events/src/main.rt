@@ -6,7 +6,7 @@ use dependencies::constraints::Constraint;
 use join_type::JOIN_TYPES;
 use join_type::JoinType;
 use join_type::JoinTypeDisplay;
-use names::error::RefusalError;
+use names::display::RefusalError;
 use relation::Relation;
 use std::error::AnyError;
 use words::RelationDisplay;
@@ -38,11 +38,20 @@ fn print_joins(rt: &LibcRuntime, events: &Relation, windows: &Relation) -> Resul
 /// The question at handover: does the open event list have to merge?
 fn print_answer(rt: &LibcRuntime, events: &Relation, windows: &Relation) -> Result<(), AnyError> {
     let joined = events.join(rt.alloc(), windows, JoinType::Inner)?;
-    println!(rt, "At handover: is the event number e.id unique after the Inner join of e and w?")?;
+    println!(
+        rt,
+        "At handover: is the event number e.id unique after the Inner join of e and w?"
+    )?;
     if joined.is_unique(EVENT_NUMBER) {
-        println!(rt, "Yes: no two rows have one event number, so the list need not merge.")?;
+        println!(
+            rt,
+            "Yes: no two rows have one event number, so the list need not merge."
+        )?;
     } else {
-        println!(rt, "No: the event number may repeat, so the list must merge.")?;
+        println!(
+            rt,
+            "No: the event number may repeat, so the list must merge."
+        )?;
     }
     Ok(())
 }

@@ -1,17 +1,19 @@
 ghost use mathlib.Core.Path.{_≡_};
 ghost use Rattle.std.specs.Vec.{made};
 ghost use Rattle.dependencies.specs.Joins.{joined};
-ghost use Rattle.dependencies.specs.View.{depsOf};
+ghost use Rattle.std.specs.Of.Vec.{vec-len};
+ghost use Rattle.dependencies.specs.View.{depOf, depsOf};
 ghost use Rattle.open_events.specs.Unique.{somePasses, isKeyOn};
 use columns::column_list::ColumnList;
 use dependencies::constraints::Constraint;
 use dependencies::constraints::Constraints;
 use dependencies::functional_dependencies::Dependency;
+use dependencies::functional_dependencies::DependencyPartialEq;
 use dependencies::functional_dependencies::FunctionalDependence;
 use dependencies::functional_dependencies::FunctionalDependencies;
 use join_type::JoinType;
 use names::column::Column;
-use names::error::RefusalError;
+use names::display::RefusalError;
 use names::name::Name;
 use names::table_reference::TableReference;
 use std::alloc::Global;
@@ -34,30 +36,51 @@ fn is_key_on(dependence: &FunctionalDependence, column: u16) -> bool
 
 impl Relation {
     /// A table of that name with those columns and keys.
-    pub fn table(heap: Global, table: &[u8], names: &[&[u8]], keys: &[Constraint]) -> Result<Relation, AnyError> {
+    pub fn table(
+        heap: Global,
+        table: &[u8],
+        names: &[&[u8]],
+        keys: &[Constraint],
+    ) -> Result<Relation, AnyError> {
         let reference = TableReference::bare(Name::new(table)?);
         let mut columns = Vec::new(heap);
         for name in names {
             columns.push(Column::new(Some(reference), Name::new(*name)?))?;
         }
         let keys = Constraints::new_unverified(keys)?;
-        let dependencies = FunctionalDependencies::new_from_constraints(Some(&keys), columns.len())?;
-        Ok(Relation { columns, dependencies })
+        let dependencies = FunctionalDependencies::new_from_constraints(
+            Some(&keys),
+            columns.len(),
+        )?;
+        Ok(Relation {
+            columns,
+            dependencies,
+        })
     }
 
     /// The join with the right side: its columns, and the dependencies that hold of its rows.
-    pub fn join(&self, heap: Global, right: &Relation, join_type: JoinType) -> Result<Relation, AnyError>
+    pub fn join(
+        &self,
+        heap: Global,
+        right: &Relation,
+        join_type: JoinType,
+    ) -> Result<Relation, AnyError>
         ensures { λ r. ⌜ made r (λ j. depsOf (j .dependencies) ≡ joined «join_type» (vec-len (now (self .entry) .columns)) (depsOf (now (self .entry) .dependencies)) (depsOf (now (right .entry) .dependencies))) ⌝ }
     {
-        let dependencies = self.dependencies.join(&right.dependencies, join_type, self.columns.len())?;
+        let dependencies = self.dependencies
+            .join(&right.dependencies, join_type, self.columns.len())?;
         let mut columns = Vec::new(heap);
         match join_type {
             JoinType::Inner | JoinType::Left | JoinType::Right | JoinType::Full => {
                 columns.extend_from_slice(self.columns.as_slice())?;
                 columns.extend_from_slice(right.columns.as_slice())?;
             }
-            JoinType::LeftSemi | JoinType::LeftAnti => columns.extend_from_slice(self.columns.as_slice())?,
-            JoinType::RightSemi | JoinType::RightAnti => columns.extend_from_slice(right.columns.as_slice())?,
+            JoinType::LeftSemi | JoinType::LeftAnti => columns.extend_from_slice(
+                self.columns.as_slice(),
+            )?,
+            JoinType::RightSemi | JoinType::RightAnti => columns.extend_from_slice(
+                right.columns.as_slice(),
+            )?,
             JoinType::LeftMark => {
                 columns.extend_from_slice(self.columns.as_slice())?;
                 columns.push(Column::new_unqualified(Name::new(b"mark")?))?;
@@ -67,7 +90,10 @@ impl Relation {
                 columns.push(Column::new_unqualified(Name::new(b"mark")?))?;
             }
         }
-        Ok(Relation { columns, dependencies })
+        Ok(Relation {
+            columns,
+            dependencies,
+        })
     }
 
     /// Whether a dependency says that no two rows have one value in that column.

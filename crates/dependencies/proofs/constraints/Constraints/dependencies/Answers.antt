@@ -17,7 +17,7 @@ use Rattle.dependencies.specs.KeyViews.{keyOf, keysOf}
 use Rattle.dependencies.specs.Model.{Dep}
 use Rattle.dependencies.specs.View.{depOf, depsOf}
 use Rattle.dependencies.specs.declared.constraints.Constraint.{Constraint}
-use Rattle.dependencies.proofs.Refused.{refused-too}
+use Rattle.names.proofs.Refused.{refused-too}
 use Rattle.dependencies.proofs.constraints.Constraints.dependencies.Needs as need
 
 pub loop-constraint-again : need.loop-constraint-again

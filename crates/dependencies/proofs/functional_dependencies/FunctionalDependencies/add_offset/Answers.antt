@@ -10,7 +10,7 @@ use Rattle.bounded.specs.View.{listOf}
 use Rattle.bounded.proofs.Tried.{tried-none, tried-more, tried-passes, tried-all, tried-fails}
 use Rattle.dependencies.specs.Model.{fitsDep, offsetBy, overrunAny}
 use Rattle.dependencies.specs.View.{depOf, depsOf}
-use Rattle.dependencies.proofs.Refused.{refused-too, not-refused}
+use Rattle.names.proofs.Refused.{refused-too, not-refused}
 use Rattle.dependencies.proofs.functional_dependencies.FunctionalDependencies.add_offset.Needs as need
 
 pub loop-i-holds : need.loop-i-holds

@@ -8,7 +8,7 @@ use Rattle.std.proofs.shelf.Tests.{ltb-true}
 use Rattle.dependencies.specs.Model.{withMode, offsetBy}
 use Rattle.dependencies.specs.View.{depsOf}
 use Rattle.dependencies.specs.declared.functional_dependencies.Dependency.the-variants.{Multi}
-use Rattle.dependencies.proofs.Refused.{was-refused}
+use Rattle.names.proofs.Refused.{was-refused}
 use Rattle.dependencies.proofs.functional_dependencies.FunctionalDependencies.beside.Needs as need
 
 -- there is room, since turning and moving dependencies keeps their number

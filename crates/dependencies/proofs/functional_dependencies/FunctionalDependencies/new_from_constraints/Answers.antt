@@ -5,7 +5,7 @@ use Rattle.std.proofs.shelf.Tests.{cond-false}
 use Rattle.names.specs.Refusals.{oversizeOver}
 use Rattle.dependencies.specs.Keys.{keyDependency, oversizeKeys}
 use Rattle.dependencies.specs.KeyViews.{keysOf}
-use Rattle.dependencies.proofs.Refused.{not-refused}
+use Rattle.names.proofs.Refused.{not-refused}
 use Rattle.dependencies.proofs.functional_dependencies.FunctionalDependencies.new_from_constraints.Needs as need
 
 pub returns-in-Some : need.returns-in-Some
