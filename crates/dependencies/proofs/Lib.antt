@@ -1,1 +1,3 @@
 mod Sets
+mod Shown
+pub mod JoinLaws

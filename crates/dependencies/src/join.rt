@@ -1,5 +1,7 @@
 ghost use mathlib.Core.Path.{_≡_};
+ghost use Rattle.std.specs.Vec.{made};
 ghost use Rattle.names.specs.Refusals.{Answers};
+ghost use Rattle.dependencies.specs.JoinedTables.{TrueOfJoins};
 ghost use Rattle.dependencies.specs.Joins.{joined, joinedSides, joinRefusal, sidesRefusal};
 ghost use Rattle.dependencies.specs.View.{depsOf};
 use crate::functional_dependencies::Dependency;
@@ -12,6 +14,18 @@ use names::error::Refusal;
 impl FunctionalDependencies {
     /// The dependencies of a join of that type, where the left side has `left_cols_len` columns and `other` is the right side's.
     pub fn join(
+        &self,
+        other: &FunctionalDependencies,
+        join_type: JoinType,
+        left_cols_len: usize,
+    ) -> Result<FunctionalDependencies, Refusal>
+        ensures answer { λ r. ⌜ Answers r (joinRefusal «join_type» «left_cols_len» (depsOf (now (self .entry))) (depsOf (now (other .entry)))) (λ d. depsOf d ≡ joined «join_type» «left_cols_len» (depsOf (now (self .entry))) (depsOf (now (other .entry)))) ⌝ }
+        ensures true_of_joins { λ r. ⌜ made r (λ d. TrueOfJoins «join_type» «left_cols_len» (depsOf (now (self .entry))) (depsOf (now (other .entry))) (depsOf d)) ⌝ }
+    {
+        self.join_by_type(other, join_type, left_cols_len)
+    }
+
+    fn join_by_type(
         &self,
         other: &FunctionalDependencies,
         join_type: JoinType,
