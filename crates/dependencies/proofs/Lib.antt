@@ -1,3 +1,4 @@
 mod Sets
 mod Shown
 pub mod JoinLaws
+mod KeyLaws

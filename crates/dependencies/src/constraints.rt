@@ -5,9 +5,11 @@ ghost use lib.ListN.{length};
 ghost use Rattle.std.specs.Iters.{counting};
 ghost use Rattle.std.specs.Options.{mapped};
 ghost use Rattle.std.specs.Orderings.{Decides};
+ghost use Rattle.std.specs.Vec.{made};
 ghost use Rattle.names.specs.Refusals.{Answers, AnswersOr, oversizeOver};
 ghost use Rattle.columns.specs.Columns.{oversizeTogether, columnsOf};
 ghost use Rattle.dependencies.specs.Keys.{keyDependency, oversizeKeys};
+ghost use Rattle.dependencies.specs.KeyTables.{StandForKeys};
 ghost use Rattle.dependencies.specs.KeyViews.{keyOf, keysOf, keysOr};
 ghost use Rattle.dependencies.specs.View.{depOf, depsOf};
 use crate::functional_dependencies::Dependency;
@@ -115,6 +117,16 @@ pub impl PartialEq<Constraints> for Constraints as ConstraintsPartialEq {
 impl FunctionalDependencies {
     /// One `Single` dependency of each key, with all columns as targets.
     pub fn new_from_constraints(
+        constraints: Option<&Constraints>,
+        n_field: usize,
+    ) -> Result<FunctionalDependencies, Refusal>
+        ensures answer { λ r. ⌜ Answers r (oversizeKeys «n_field» (keysOr (mapped now (constraints .entry)))) (λ d. depsOf d ≡ map (keyDependency (counting 0 «n_field»)) (keysOr (mapped now (constraints .entry)))) ⌝ }
+        ensures stand_for_keys { λ r. ⌜ made r (λ d. StandForKeys (keysOr (mapped now (constraints .entry))) (depsOf d)) ⌝ }
+    {
+        FunctionalDependencies::of_keys(constraints, n_field)
+    }
+
+    fn of_keys(
         constraints: Option<&Constraints>,
         n_field: usize,
     ) -> Result<FunctionalDependencies, Refusal>

@@ -1,16 +1,14 @@
-use mathlib.Core.Path.{_≡_, ap, _∙_}
-use mathlib.Core.List.{map}
-use Rattle.std.proofs.shelf.Results.{cases-weaker}
-use Rattle.std.proofs.shelf.Tests.{cond-false}
-use Rattle.names.specs.Refusals.{oversizeOver}
-use Rattle.dependencies.specs.Keys.{keyDependency, oversizeKeys}
-use Rattle.dependencies.specs.KeyViews.{keysOf}
-use Rattle.names.proofs.Refused.{not-refused}
+use Rattle.std.specs.Iters.{counting}
+use Rattle.std.specs.Options.{mapped}
+use denote.Ref.{now}
+use Rattle.names.proofs.Refused.{answers-law}
+use Rattle.dependencies.specs.KeyTables.{StandForKeys}
+use Rattle.dependencies.specs.KeyViews.{keysOr}
+use Rattle.dependencies.specs.View.{depsOf}
+use Rattle.dependencies.proofs.KeyLaws.{keys-stand}
 use Rattle.dependencies.proofs.functional_dependencies.FunctionalDependencies.new_from_constraints.Needs as need
 
-pub returns-in-Some : need.returns-in-Some
-returns-in-Some c =
-    let said = c .in-Continue-all .ensures tt in
-    let keys = keysOf (c .in-Some .constraints .now) in
-    let wide : oversizeKeys (c .args .n-field) keys ≡ oversizeOver 32 keys = cond-false _ _ _ (not-refused _ _ (said .0)) in
-    rw (c .in-Some .is) (cases-weaker (c .dependencies .result) (c .dependencies .ensures) (λ d h. (wide ∙ h .0, h .1 ∙ ap (λ l. map (keyDependency l) keys) (said .1))) (λ e h. wide ∙ h))
+pub returns : need.returns
+returns c =
+    let keys = keysOr (mapped now (c .args .constraints)) in
+    record { answer = c .of-keys .ensures; stand-for-keys = answers-law (c .of-keys .result) _ depsOf _ (StandForKeys keys) (c .of-keys .ensures) (keys-stand (counting 0 (c .args .n-field)) keys) }
