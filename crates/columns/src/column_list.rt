@@ -7,8 +7,9 @@ ghost use Rattle.std.specs.Iters.{counting};
 ghost use Rattle.std.specs.Options.{Cases};
 ghost use Rattle.std.specs.Orderings.{Decides};
 ghost use Rattle.std.specs.Places.{Every};
+ghost use Rattle.std.specs.shelf.Lists.{All};
 ghost use Rattle.names.specs.Refusals.{Answers, AnswersOr, oversizeOver};
-ghost use Rattle.columns.specs.Columns.{oversizeWidth, fullAt, overrunAt, shifted};
+ghost use Rattle.columns.specs.Columns.{oversizeWidth, fullAt, overrunAt, places, shifted};
 ghost use Rattle.columns.specs.Columns.{columnsOf};
 use bounded::clones::BoundedClone;
 use bounded::equality::BoundedPartialEq;
@@ -83,6 +84,35 @@ impl ColumnList {
         ensures { λ r. ⌜ Cases r (Every (λ c. c ≡ column → ⊥) (columnsOf (now (self .entry))) 0 (length (columnsOf (now (self .entry))))) (λ i. (i < length (columnsOf (now (self .entry)))) × (getD (columnsOf (now (self .entry))) i 0 ≡ column) × Every (λ c. c ≡ column → ⊥) (columnsOf (now (self .entry))) 0 i) ⌝ }
     {
         first_position(self.as_slice(), &column)
+    }
+
+    /// Whether each column number is below the width.
+    pub fn all_below(&self, width: usize) -> bool
+        ensures { λ r. ⌜ Decides r (All (λ c. c < width) (columnsOf (now (self .entry)))) ⌝ }
+    {
+        for column in self.as_slice() {
+            if *column as usize >= width {
+                return false;
+            }
+        }
+        true
+    }
+
+    /// The first position in `list` of each column that is listed there; the others are left out.
+    pub fn places_in(&self, list: &ColumnList) -> ColumnList
+        ensures { λ r. ⌜ columnsOf r ≡ places (columnsOf (now (list .entry))) (columnsOf (now (self .entry))) ⌝ }
+    {
+        let mut columns = Bounded::new(0);
+        for column in self.as_slice() {
+            match list.position(*column) {
+                Some(place) => {
+                    // there is room: at most one is pushed for each of at most 64
+                    let _ = columns.push(place as u16);
+                }
+                None => {}
+            }
+        }
+        ColumnList { columns }
     }
 
     pub fn push(&mut self, column: u16) -> Result<(), Refusal>
