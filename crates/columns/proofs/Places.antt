@@ -1,6 +1,6 @@
 -- First positions in a list of columns.
 use mathlib.Core.Path.{_≡_, refl, sym, ap, _∙_}
-use mathlib.Core.Bool.{Bool, true, false, cond}
+use mathlib.Core.Bool.{Bool, true, false, cond, _&&_}
 use mathlib.Core.List.{List, [], _∷_, _++_}
 use Prim.Native.Nat.{ℕ, zero, suc, _+_, _<_, _≤_}
 use native.Mathlib.Nat.{le-of-suc-le-suc, not-suc-le-zero}
@@ -9,12 +9,14 @@ use lib.Dec.{eqb}
 use lib.ListN.{length, take, getD}
 use Rattle.std.specs.declared.option.Option.{Option}
 use Rattle.std.specs.declared.option.Option.the-variants.{Some, None}
-use Rattle.std.specs.Options.{Cases, mapped}
+use Rattle.std.specs.Options.{Cases, isSome, mapped}
 use Rattle.std.specs.Places.{Every}
 use Rattle.std.specs.Vec.{listOf as optional}
 use Rattle.std.proofs.shelf.Lists.{take-more, joined-more, length-append, append-nil}
-use Rattle.std.proofs.shelf.Tests.{eq-eqb, ne-eqb}
-use Rattle.columns.specs.Columns.{firstPlace, places}
+use Rattle.std.proofs.shelf.Tests.{eq-eqb, ne-eqb, eqb-true}
+use Rattle.std.proofs.shelf.Ways.{tells}
+use Rattle.std.specs.shelf.Lawful.{all-pass}
+use Rattle.columns.specs.Columns.{firstPlace, places, isListed}
 
 step : (x : ℕ) (xs : List ℕ) (c : ℕ) (r : Option ℕ) → (x ≡ c → ⊥) → firstPlace xs c ≡ r → firstPlace (x ∷ xs) c ≡ mapped suc r
 step x xs c r ne e = ap (λ b. cond b (Some 0) (mapped suc (firstPlace xs c))) (ne-eqb x c ne) ∙ ap (mapped suc) e
@@ -51,3 +53,25 @@ module _ (xs cs : List ℕ) (i : ℕ) (h : i < length cs) {out : List ℕ} (so-f
 
   pub places-missing : firstPlace xs (getD cs i 0) ≡ None → out ≡ places xs (take (i + 1) cs)
   places-missing missing = so-far ∙ sym (places-more xs cs i h ∙ ap (λ r. places xs (take i cs) ++ optional r) missing ∙ append-nil _)
+
+-- as many places as columns exactly when all are listed
+pub all-listed-is : (xs cs : List ℕ) → eqb (length (places xs cs)) (length cs) ≡ all-pass (isListed xs) cs
+all-listed-is xs [] = refl
+all-listed-is xs (c ∷ cs) =
+    elim (firstPlace xs c) as (λ r. eqb (length (optional r ++ places xs cs)) (suc (length cs)) ≡ (isSome r && all-pass (isListed xs) cs)) [
+      | None ↦ ne-eqb _ _ (λ e. omega (arith, places-few xs cs))
+      | Some p ↦ same-suc (length (places xs cs)) (length cs) ∙ all-listed-is xs cs
+    ]
+  where
+    same-suc : (m n : ℕ) → eqb (suc m) (suc n) ≡ eqb m n
+    same-suc m n = grind (arith, tells)
+
+-- the first place is one in the list, and holds the column
+pub place-holds : (xs : List ℕ) (c : ℕ) → Cases (firstPlace xs c) (Unit {0}) (λ p. (p < length xs) × (getD xs p 0 ≡ c))
+place-holds [] c = tt
+place-holds (x ∷ xs) c = go (eqb x c) refl (firstPlace xs c) (place-holds xs c)
+  where
+    go : (b : Bool) → eqb x c ≡ b → (r : Option ℕ) → Cases r (Unit {0}) (λ p. (p < length xs) × (getD xs p 0 ≡ c)) → Cases (cond b (Some 0) (mapped suc r)) (Unit {0}) (λ p. (p < suc (length xs)) × (getD (x ∷ xs) p 0 ≡ c))
+    go true e r h = (omega arith, eqb-true x c e)
+    go false e None h = tt
+    go false e (Some p) h = (omega (arith, h .0), h .1)

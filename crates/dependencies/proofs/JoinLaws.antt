@@ -19,15 +19,11 @@ use Rattle.dependencies.specs.Model.{Dep, dependence, withMode, offsetBy, null
 use Rattle.dependencies.specs.Tables.{Row, Table, null, cellAt, rowAt, Keeps, KeepsAll, Within, Valid, Wide}
 use Rattle.dependencies.specs.declared.functional_dependencies.Dependency.{Dependency}
 use Rattle.dependencies.specs.declared.functional_dependencies.Dependency.the-variants.{Multi}
-use Rattle.dependencies.proofs.Shown.{Shows, NullsAt, ShowsAt, NullFor, carried, keeps-shown, keeps-part, keeps-padded}
+use Rattle.dependencies.proofs.Shown.{all-both, Shows, NullsAt, ShowsAt, NullFor, carried, keeps-shown, keeps-part, keeps-padded}
 
 all-of : {X : Type 0} (P : X → Type 0) → ((x : X) → P x) → (xs : List X) → All P xs
 all-of P h [] = tt
 all-of P h (x ∷ xs) = (h x, all-of P h xs)
-
-all-both : {X : Type 0} (P Q R : X → Type 0) → ((x : X) → P x → Q x → R x) → (xs : List X) → All P xs → All Q xs → All R xs
-all-both P Q R h [] p q = tt
-all-both P Q R h (x ∷ xs) p q = (h x (p .0) (q .0), all-both P Q R h xs (p .1) (q .1))
 
 nulls-at : (r : Row) (c : ℕ) → Nulls r → cellAt r c ≡ null
 nulls-at [] c h = refl

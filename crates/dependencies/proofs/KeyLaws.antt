@@ -6,11 +6,8 @@ use native.Mathlib.Omega.{arith}
 use Rattle.std.specs.shelf.Lists.{All}
 use Rattle.dependencies.specs.Keys.{Key, primaryKey, uniqueKey, keyDependency}
 use Rattle.dependencies.specs.KeyTables.{HasKey, StandForKeys}
-use Rattle.dependencies.specs.Tables.{Row, Table, rowAt, Agree, Fixes, Once, Keeps, KeepsAll}
-
-agree-itself : (cs : List ℕ) (r : Row) → Agree cs r r
-agree-itself [] r = tt
-agree-itself (c ∷ cs) r = (refl, agree-itself cs r)
+use Rattle.dependencies.specs.Tables.{Table, rowAt, Agree, Fixes, Once, Keeps, KeepsAll}
+use Rattle.dependencies.proofs.Shown.{agree-itself}
 
 module _ (all : List ℕ) (t : Table) where
   -- a row that agrees with itself alone fixes every column

@@ -2,3 +2,4 @@ mod Sets
 mod Shown
 pub mod JoinLaws
 mod KeyLaws
+mod ProjectLaws

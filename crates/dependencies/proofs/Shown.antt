@@ -12,6 +12,14 @@ use Rattle.dependencies.specs.Tables.{Row, Table, null, cellAt, rowAt, Agree, 
 use Rattle.dependencies.specs.declared.functional_dependencies.Dependency.{Dependency}
 use Rattle.dependencies.specs.declared.functional_dependencies.Dependency.the-variants.{Single, Multi}
 
+pub all-both : {X : Type 0} (P Q R : X → Type 0) → ((x : X) → P x → Q x → R x) → (xs : List X) → All P xs → All Q xs → All R xs
+all-both P Q R h [] p q = tt
+all-both P Q R h (x ∷ xs) p q = (h x (p .0) (q .0), all-both P Q R h xs (p .1) (q .1))
+
+pub agree-itself : (cs : List ℕ) (r : Row) → Agree cs r r
+agree-itself [] r = tt
+agree-itself (c ∷ cs) r = (refl, agree-itself cs r)
+
 -- the row r has at g c what r′ has at c
 abbrev pub Shows : (ℕ → ℕ) → List ℕ → Row → Row → Type 0
 Shows g cs r r′ = All (λ c. cellAt r (g c) ≡ cellAt r′ c) cs

@@ -5,6 +5,7 @@ use Prim.Native.Nat.{ℕ}
 use lib.Chars.{codes}
 use lib.Dec.{eqb}
 use lib.ListN.{length}
+use Rattle.std.specs.Iters.{counting}
 use Rattle.std.specs.shelf.Lists.{kept-by}
 use Rattle.std.specs.shelf.Lawful.{all-pass}
 use Rattle.std.specs.declared.option.Option.{Option}
@@ -55,3 +56,15 @@ nullableDep d = dependence (d .sources) (d .targets) true (d .mode)
 -- what is left of a side that a join pads with nulls
 abbrev pub padded : List Dep → List Dep
 padded ds = map nullableDep (kept-by survivesNulls ds)
+
+-- a key that occurs once determines those columns
+abbrev pub targetsFor : Dependency → List ℕ → List ℕ → List ℕ
+targetsFor Single all ts = all
+targetsFor Multi all ts = ts
+
+abbrev pub overTargets : List ℕ → Dep → Dep
+overTargets all d = dependence (d .sources) (targetsFor (d .mode) all (d .targets)) (d .nullable) (d .mode)
+
+-- all columns of the width
+abbrev pub targetsOver : ℕ → Dep → Dep
+targetsOver n d = overTargets (counting 0 n) d

@@ -63,7 +63,7 @@ pub impl PartialEq<Constraint> for Constraint as ConstraintPartialEq {
 /// The keys of a table: at most 64.
 #[derive(Clone, Copy)]
 pub struct Constraints {
-    inner: Bounded<Constraint, MAX_CONSTRAINTS>,
+    pub(crate) inner: Bounded<Constraint, MAX_CONSTRAINTS>,
 }
 
 impl Constraints {

@@ -40,10 +40,10 @@ impl Dependency {
 /// Rows that agree on all source columns agree on all target columns.
 #[derive(Clone, Copy)]
 pub struct FunctionalDependence {
-    source_indices: ColumnList,
-    target_indices: ColumnList,
-    nullable: bool,
-    mode: Dependency,
+    pub(crate) source_indices: ColumnList,
+    pub(crate) target_indices: ColumnList,
+    pub(crate) nullable: bool,
+    pub(crate) mode: Dependency,
 }
 
 impl FunctionalDependence {
@@ -137,7 +137,7 @@ pub impl PartialEq<FunctionalDependence> for FunctionalDependence as FunctionalD
 /// The functional dependencies of a relation: at most 32.
 #[derive(Clone, Copy)]
 pub struct FunctionalDependencies {
-    deps: Bounded<FunctionalDependence, MAX_DEPENDENCIES>,
+    pub(crate) deps: Bounded<FunctionalDependence, MAX_DEPENDENCIES>,
 }
 
 impl FunctionalDependencies {

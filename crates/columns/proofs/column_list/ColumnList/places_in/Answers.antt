@@ -18,10 +18,10 @@ loop-column-again c =
     let inside = c .loop-column-test .taken in
     let so-far = c .loop-column .inv in
     elim (c .match-position .came) [
-    | in-Some w ↦
-        let room : length (listOf (c .loop-column .columns)) < 64 = omega (arith, ap length so-far, places-few xs (take i cs), length-take-le i cs (omega arith), c .as-slice-column-items .ensures .few) in
-        rw (w .columns-is) (places-listed xs cs i inside so-far (w .in-Some .place) (first-place-is xs (getD cs i 0) (Some (w .in-Some .place)) (w .in-Some .ensures tt)) (w .push .ensures .pushed room))
-    | in-None w ↦ rw (w .columns-is) (places-missing xs cs i inside so-far (first-place-is xs (getD cs i 0) None (w .in-None .ensures tt)))
+      | in-Some w ↦
+          let room : length (listOf (c .loop-column .columns)) < 64 = omega (arith, ap length so-far, places-few xs (take i cs), length-take-le i cs (omega arith), c .as-slice-column-items .ensures .few) in
+          rw (w .columns-is) (places-listed xs cs i inside so-far (w .in-Some .place) (first-place-is xs (getD cs i 0) (Some (w .in-Some .place)) (w .in-Some .ensures tt)) (w .push .ensures .pushed room))
+      | in-None w ↦ rw (w .columns-is) (places-missing xs cs i inside so-far (first-place-is xs (getD cs i 0) None (w .in-None .ensures tt)))
     ]
 
 pub returns : need.returns
