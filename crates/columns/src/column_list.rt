@@ -7,10 +7,10 @@ ghost use Rattle.std.specs.Iters.{counting};
 ghost use Rattle.std.specs.Options.{Cases};
 ghost use Rattle.std.specs.Orderings.{Decides};
 ghost use Rattle.std.specs.Places.{Every};
+ghost use Rattle.std.specs.shelf.Lawful.{all-pass};
 ghost use Rattle.std.specs.shelf.Lists.{All};
 ghost use Rattle.names.specs.Refusals.{Answers, AnswersOr, oversizeOver};
-ghost use Rattle.columns.specs.Columns.{oversizeWidth, fullAt, overrunAt, places, shifted};
-ghost use Rattle.columns.specs.Columns.{columnsOf};
+ghost use Rattle.columns.specs.Columns.{columnsOf, oversizeWidth, fullAt, overrunAt, places, isListed, shifted};
 use bounded::clones::BoundedClone;
 use bounded::equality::BoundedPartialEq;
 use bounded::list::Bounded;
@@ -113,6 +113,13 @@ impl ColumnList {
             }
         }
         ColumnList { columns }
+    }
+
+    /// Whether each column is in `list`.
+    pub fn all_listed_in(&self, list: &ColumnList) -> bool
+        ensures { λ r. ⌜ r ≡ all-pass (isListed (columnsOf (now (list .entry)))) (columnsOf (now (self .entry))) ⌝ }
+    {
+        self.places_in(list).len() == self.len()
     }
 
     pub fn push(&mut self, column: u16) -> Result<(), Refusal>

@@ -4,7 +4,8 @@ use mathlib.Core.List.{List, [], _∷_, map}
 use Prim.Native.Nat.{ℕ, _<_}
 use native.Mathlib.Omega.{arith}
 use Rattle.std.specs.shelf.Lists.{All}
-use Rattle.dependencies.specs.Keys.{Key, primaryKey, uniqueKey, keyDependency}
+use Rattle.constraints.specs.Keys.{Key, primaryKey, uniqueKey}
+use Rattle.dependencies.specs.Keys.{keyDependency}
 use Rattle.dependencies.specs.KeyTables.{HasKey, StandForKeys}
 use Rattle.dependencies.specs.Tables.{Table, rowAt, Agree, Fixes, Once, Keeps, KeepsAll}
 use Rattle.dependencies.proofs.Shown.{agree-itself}

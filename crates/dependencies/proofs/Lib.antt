@@ -1,4 +1,3 @@
-mod Sets
 mod Shown
 pub mod JoinLaws
 mod KeyLaws

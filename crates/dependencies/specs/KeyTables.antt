@@ -1,7 +1,7 @@
 -- When a table has a key, and what it means that dependencies stand for keys.
 use mathlib.Core.List.{List}
 use Rattle.std.specs.shelf.Lists.{All}
-use Rattle.dependencies.specs.Keys.{Key, primaryKey, uniqueKey}
+use Rattle.constraints.specs.Keys.{Key, primaryKey, uniqueKey}
 use Rattle.dependencies.specs.Model.{Dep}
 use Rattle.dependencies.specs.Tables.{Table, Once, NeverNull, KeepsAll}
 

@@ -1,4 +1,4 @@
--- Keys, and the dependencies that they stand for.
+-- The dependencies that keys stand for.
 use mathlib.Core.List.{List, [], _∷_}
 use mathlib.Core.Bool.{Bool, true, false}
 use Prim.Native.Nat.{ℕ}
@@ -9,13 +9,9 @@ use Rattle.std.specs.declared.option.Option.the-variants.{Some, None}
 use Rattle.names.specs.declared.error.Refusal.{Refusal}
 use Rattle.names.specs.declared.error.Refusal.the-variants.{Oversize}
 use Rattle.names.specs.Refusals.{refusedIf}
+use Rattle.constraints.specs.Keys.{Key, primaryKey, uniqueKey}
 use Rattle.dependencies.specs.Model.{Dep, dependence}
 use Rattle.dependencies.specs.declared.functional_dependencies.Dependency.the-variants.{Single}
-
--- a key over its columns
-pub data Key : Type 0 where
-  primaryKey : List ℕ → Key
-  uniqueKey : List ℕ → Key
 
 -- all columns depend on those of the key, which occurs once; only a unique key may hold nulls
 abbrev pub keyDependency : List ℕ → Key → Dep

@@ -1,4 +1,4 @@
--- Dependencies and keys in the columns of a projection, which lists the columns that it takes.
+-- Dependencies in the columns of a projection, which lists the columns that it takes.
 use mathlib.Core.List.{List, map}
 use mathlib.Core.Bool.{Bool}
 use Prim.Native.Nat.{ℕ}
@@ -6,7 +6,6 @@ use Rattle.std.specs.Iters.{counting}
 use Rattle.std.specs.shelf.Lists.{kept-by}
 use Rattle.std.specs.shelf.Lawful.{all-pass}
 use Rattle.columns.specs.Columns.{places, isListed}
-use Rattle.dependencies.specs.Keys.{Key, primaryKey, uniqueKey}
 use Rattle.dependencies.specs.Model.{Dep, dependence, targetsFor}
 
 -- each column becomes its first place; targets that are not listed are left out, and a key that occurs once determines all
@@ -19,18 +18,3 @@ sourcesListed proj d = all-pass (isListed proj) (d .sources)
 
 abbrev pub projected : List ℕ → ℕ → List Dep → List Dep
 projected proj n ds = map (projectedDep proj (counting 0 n)) (kept-by (sourcesListed proj) ds)
-
-abbrev pub keyColumns : Key → List ℕ
-keyColumns (primaryKey cs) = cs
-keyColumns (uniqueKey cs) = cs
-
-abbrev pub projectedKey : List ℕ → Key → Key
-projectedKey proj (primaryKey cs) = primaryKey (places proj cs)
-projectedKey proj (uniqueKey cs) = uniqueKey (places proj cs)
-
--- a key stays when all its columns do
-abbrev pub keyListed : List ℕ → Key → Bool
-keyListed proj k = all-pass (isListed proj) (keyColumns k)
-
-abbrev pub projectedKeys : List ℕ → List Key → List Key
-projectedKeys proj ks = map (projectedKey proj) (kept-by (keyListed proj) ks)

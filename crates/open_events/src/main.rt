@@ -2,7 +2,7 @@ mod relation;
 mod words;
 
 use columns::column_list::ColumnList;
-use dependencies::constraints::Constraint;
+use constraints::constraints::Constraint;
 use join_type::JOIN_TYPES;
 use join_type::JoinType;
 use join_type::JoinTypeDisplay;

@@ -3,7 +3,7 @@ use mathlib.Core.List.{map}
 use Rattle.std.proofs.shelf.Lists.{map-append}
 use Rattle.bounded.specs.View.{listOf}
 use Rattle.dependencies.specs.View.{depOf, holding}
-use Rattle.dependencies.proofs.Sets.{fit-together, pass-together}
+use Rattle.columns.proofs.Sizes.{fit-together, pass-together}
 use Rattle.dependencies.proofs.functional_dependencies.FunctionalDependencies.extend.Needs as need
 
 pub returns-in-Ok : need.returns-in-Ok

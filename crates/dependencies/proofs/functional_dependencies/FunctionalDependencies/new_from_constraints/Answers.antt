@@ -3,7 +3,7 @@ use Rattle.std.specs.Options.{mapped}
 use denote.Ref.{now}
 use Rattle.names.proofs.Refused.{answers-law}
 use Rattle.dependencies.specs.KeyTables.{StandForKeys}
-use Rattle.dependencies.specs.KeyViews.{keysOr}
+use Rattle.constraints.specs.View.{keysOr}
 use Rattle.dependencies.specs.View.{depsOf}
 use Rattle.dependencies.proofs.KeyLaws.{keys-stand}
 use Rattle.dependencies.proofs.functional_dependencies.FunctionalDependencies.new_from_constraints.Needs as need

@@ -8,7 +8,7 @@ use Rattle.columns.specs.Columns.{columnsOf}
 use Rattle.dependencies.specs.Projections.{sourcesListed, projectedDep}
 use Rattle.dependencies.specs.View.{depOf, depsOf}
 use Rattle.dependencies.proofs.functional_dependencies.FunctionalDependencies.project.Needs as need
-use Rattle.dependencies.proofs.functional_dependencies.FunctionalDependencies.project.Needs.{then-all-listed, else-all-listed}
+use Rattle.dependencies.proofs.functional_dependencies.FunctionalDependencies.project.Needs.{then-all-listed-in, else-all-listed-in}
 
 pub loop-d-holds : need.loop-d-holds
 loop-d-holds c = rw (c .as-slice-d-items .ensures .value) (sift-none (listOf (c .args .self .now .deps)))
@@ -20,9 +20,9 @@ pub loop-d-again : need.loop-d-again
 loop-d-again c =
     let s = c .loop-d .inv in
     let d = c .d-item .result in
-    elim (c .if-all-listed .came) [
-      | then-all-listed w ↦ rw (w .projected-is, w .count-is) (sift-keep d _ s (c .loop-d-test .taken) (c .d-item .is) (sym (w .if-all-listed .ensures tt)) (w .projected .ensures) (w .set .ensures .stored))
-      | else-all-listed w ↦ rw (w .projected-is, w .count-is) (sift-skip d s (c .loop-d-test .taken) (c .d-item .is) (sym (w .if-all-listed .ensures tt)))
+    elim (c .if-all-listed-in .came) [
+      | then-all-listed-in w ↦ rw (w .projected-is, w .count-is) (sift-keep d _ s (c .loop-d-test .taken) (c .d-item .is) (sym (w .if-all-listed-in .ensures tt)) (w .projected .ensures) (w .set .ensures .stored))
+      | else-all-listed-in w ↦ rw (w .projected-is, w .count-is) (sift-skip d s (c .loop-d-test .taken) (c .d-item .is) (sym (w .if-all-listed-in .ensures tt)))
     ]
 
 pub returns : need.returns

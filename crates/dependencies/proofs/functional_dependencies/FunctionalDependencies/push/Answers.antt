@@ -3,7 +3,7 @@ use mathlib.Core.List.{map}
 use Rattle.std.proofs.shelf.Lists.{map-push}
 use Rattle.bounded.specs.View.{listOf}
 use Rattle.dependencies.specs.View.{depOf, holding}
-use Rattle.dependencies.proofs.Sets.{has-room, is-full}
+use Rattle.columns.proofs.Sizes.{has-room, is-full}
 use Rattle.dependencies.proofs.functional_dependencies.FunctionalDependencies.push.Needs as need
 
 pub returns-in-Ok : need.returns-in-Ok

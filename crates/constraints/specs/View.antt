@@ -5,10 +5,10 @@ use Rattle.std.specs.declared.option.Option.the-variants.{Some, None}
 use Rattle.bounded.specs.View.{listOf}
 use Rattle.bounded.specs.declared.list.Bounded.{Bounded}
 use Rattle.columns.specs.Columns.{columnsOf}
-use Rattle.dependencies.specs.Keys.{Key, primaryKey, uniqueKey}
-use Rattle.dependencies.specs.declared.constraints.Constraint.{Constraint}
-use Rattle.dependencies.specs.declared.constraints.Constraint.the-variants.{PrimaryKey, Unique}
-use Rattle.dependencies.specs.declared.constraints.Constraints.{Constraints}
+use Rattle.constraints.specs.Keys.{Key, primaryKey, uniqueKey}
+use Rattle.constraints.specs.declared.constraints.Constraint.{Constraint}
+use Rattle.constraints.specs.declared.constraints.Constraint.the-variants.{PrimaryKey, Unique}
+use Rattle.constraints.specs.declared.constraints.Constraints.{Constraints}
 
 abbrev pub keyOf : Constraint → Key
 keyOf (PrimaryKey cs) = primaryKey (columnsOf cs)

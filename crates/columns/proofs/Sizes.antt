@@ -1,23 +1,16 @@
-use Rattle.columns.specs.Columns.{fullAt, oversizeTogether}
--- Sets of dependencies as the lists that they stand for: what an entry more, or more entries, make of the list.
+-- When a list, seen through a view of its entries, has room.
 use mathlib.Core.Path.{_≡_}
-use mathlib.Core.List.{List, [], _∷_, _++_, map}
+use mathlib.Core.List.{List, map}
 use native.Mathlib.Omega.{arith}
 use Prim.Native.Nat.{ℕ, _+_, _<_, _≤_}
 use lib.ListN.{length}
 use Rattle.std.specs.declared.option.Option.the-variants.{Some, None}
-use Rattle.std.proofs.shelf.Lists.{length-map, map-append}
+use Rattle.std.proofs.shelf.Lists.{length-map}
 use Rattle.std.proofs.shelf.Tests.{cond-true, cond-false, lt-ltb, le-ltb, not-from-true, not-from-false}
 use Rattle.names.specs.declared.error.Refusal.the-variants.{Oversize}
-use Rattle.names.specs.Refusals.{oversizeOver}
+use Rattle.columns.specs.Columns.{fullAt, oversizeTogether}
 
 module _ {X Y : Type 0} (v : X → Y) (n : ℕ) where
-  pub fits-in : (xs : List X) → length xs ≤ n → oversizeOver n (map v xs) ≡ None
-  fits-in xs h = cond-false _ _ _ (le-ltb n _ (omega (arith, length-map xs v)))
-
-  pub fits-not : (xs : List X) → n < length xs → oversizeOver n (map v xs) ≡ Some Oversize
-  fits-not xs h = cond-true _ _ _ (lt-ltb n _ (omega (arith, length-map xs v)))
-
   pub has-room : (xs : List X) → length xs < n → fullAt n (map v xs) ≡ None
   has-room xs h = cond-false _ _ _ (not-from-true _ (lt-ltb _ n (omega (arith, length-map xs v))))
 

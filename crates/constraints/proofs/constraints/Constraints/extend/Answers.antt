@@ -2,9 +2,9 @@ use mathlib.Core.Path.{ap, _∙_}
 use mathlib.Core.List.{map}
 use Rattle.std.proofs.shelf.Lists.{map-append}
 use Rattle.bounded.specs.View.{listOf}
-use Rattle.dependencies.specs.KeyViews.{keyOf, holdingKeys}
-use Rattle.dependencies.proofs.Sets.{fit-together, pass-together}
-use Rattle.dependencies.proofs.constraints.Constraints.extend.Needs as need
+use Rattle.constraints.specs.View.{keyOf, holdingKeys}
+use Rattle.columns.proofs.Sizes.{fit-together, pass-together}
+use Rattle.constraints.proofs.constraints.Constraints.extend.Needs as need
 
 pub returns-in-Ok : need.returns-in-Ok
 returns-in-Ok c =

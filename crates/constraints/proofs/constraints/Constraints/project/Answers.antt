@@ -7,10 +7,10 @@ use Rattle.std.proofs.shelf.Lists.{length-map, length-take-le}
 use Rattle.bounded.specs.View.{listOf}
 use Rattle.bounded.proofs.Sift.{sift-none, sift-skip, sift-keep, sift-all}
 use Rattle.columns.specs.Columns.{columnsOf, isListed}
-use Rattle.dependencies.specs.KeyViews.{keyOf, keysOf}
-use Rattle.dependencies.specs.Projections.{projectedKeys}
-use Rattle.dependencies.proofs.constraints.Constraints.project.Needs as need
-use Rattle.dependencies.proofs.constraints.Constraints.project.Needs.{then-all-listed, else-all-listed}
+use Rattle.constraints.specs.View.{keyOf, keysOf}
+use Rattle.constraints.specs.Keys.{projectedKeys}
+use Rattle.constraints.proofs.constraints.Constraints.project.Needs as need
+use Rattle.constraints.proofs.constraints.Constraints.project.Needs.{then-all-listed-in, else-all-listed-in}
 
 pub loop-key-holds : need.loop-key-holds
 loop-key-holds c = rw (c .as-slice-key-items .ensures .value) (sift-none (listOf (c .args .self .now .inner)))
@@ -23,9 +23,9 @@ loop-key-again c =
     let s = c .loop-key .inv in
     let key = c .key-item .result in
     let listed = ap (all-pass (isListed (columnsOf (c .args .proj-indices .now)))) (sym (c .columns .ensures)) in
-    elim (c .if-all-listed .came) [
-      | then-all-listed w ↦ rw (w .projected-is, w .count-is) (sift-keep key _ s (c .loop-key-test .taken) (c .key-item .is) (listed ∙ sym (w .if-all-listed .ensures tt)) (w .projected .ensures) (w .set .ensures .stored))
-      | else-all-listed w ↦ rw (w .projected-is, w .count-is) (sift-skip key s (c .loop-key-test .taken) (c .key-item .is) (listed ∙ sym (w .if-all-listed .ensures tt)))
+    elim (c .if-all-listed-in .came) [
+      | then-all-listed-in w ↦ rw (w .projected-is, w .count-is) (sift-keep key _ s (c .loop-key-test .taken) (c .key-item .is) (listed ∙ sym (w .if-all-listed-in .ensures tt)) (w .projected .ensures) (w .set .ensures .stored))
+      | else-all-listed-in w ↦ rw (w .projected-is, w .count-is) (sift-skip key s (c .loop-key-test .taken) (c .key-item .is) (listed ∙ sym (w .if-all-listed-in .ensures tt)))
     ]
 
 pub returns-then-count-eq0 : need.returns-then-count-eq0
