@@ -1,6 +1,6 @@
 -- The table of the ten join types, and the rules that it keeps.
 use mathlib.Core.Path.{_≡_}
-use mathlib.Core.Bool.{Bool, true, false, not, _&&_}
+use mathlib.Core.Bool.{Bool, true, false, not, _&&_, _||_}
 use mathlib.Core.List.{List, [], _∷_}
 use Prim.Native.Nat.{ℕ, suc}
 use lib.Chars.{codes}
@@ -35,21 +35,21 @@ nameOf RightAnti = codes "RightAnti"
 nameOf LeftMark = codes "LeftMark"
 nameOf RightMark = codes "RightMark"
 
-abbrev row : JoinType → JoinType → Bool → Bool → Bool → JoinRecord
-row t s o l r = record { «join_type» = t; swap = s; outer = o; «left_preserved» = l; «right_preserved» = r }
+abbrev row : JoinType → JoinType → Bool → Bool → Bool → Bool → Bool → JoinRecord
+row t s o l r b m = record { «join_type» = t; swap = s; outer = o; «left_preserved» = l; «right_preserved» = r; «empty_build_side» = b; «empty_map» = m }
 
--- swap, outer, and which side is preserved for filters of the condition
+-- swap, outer, which side is preserved for filters of the condition, and whether an empty build side or one without a match leaves nothing
 abbrev pub recordOf : JoinType → JoinRecord
-recordOf Inner = row Inner Inner false true true
-recordOf Left = row Left Right true false true
-recordOf Right = row Right Left true true false
-recordOf Full = row Full Full true false false
-recordOf LeftSemi = row LeftSemi RightSemi false true true
-recordOf RightSemi = row RightSemi LeftSemi false true true
-recordOf LeftAnti = row LeftAnti RightAnti false false true
-recordOf RightAnti = row RightAnti LeftAnti false true false
-recordOf LeftMark = row LeftMark RightMark false false true
-recordOf RightMark = row RightMark LeftMark false true false
+recordOf Inner = row Inner Inner false true true true true
+recordOf Left = row Left Right true false true true false
+recordOf Right = row Right Left true true false false false
+recordOf Full = row Full Full true false false false false
+recordOf LeftSemi = row LeftSemi RightSemi false true true true true
+recordOf RightSemi = row RightSemi LeftSemi false true true true true
+recordOf LeftAnti = row LeftAnti RightAnti false false true true false
+recordOf RightAnti = row RightAnti LeftAnti false true false false false
+recordOf LeftMark = row LeftMark RightMark false false true true false
+recordOf RightMark = row RightMark LeftMark false true false false false
 
 -- s is t with its sides exchanged: swapping s gives t back, the preserved sides change places, and s is outer where t is
 pub record Ruled (t s : JoinType) : Type 0 where
@@ -66,7 +66,7 @@ same false b = not b
 abbrev ruledIn : List JoinRecord → JoinRecord → Bool
 ruledIn table r =
     let s : JoinRecord = getD table (numberOf (r .swap)) r in
-    eqb (numberOf (s .swap)) (numberOf (r .«join_type»)) && same (s .«left_preserved») (r .«right_preserved») && same (s .«right_preserved») (r .«left_preserved») && same (s .outer) (r .outer)
+    eqb (numberOf (s .swap)) (numberOf (r .«join_type»)) && same (s .«left_preserved») (r .«right_preserved») && same (s .«right_preserved») (r .«left_preserved») && same (s .outer) (r .outer) && (not (r .«empty_map») || r .«empty_build_side»)
 
 -- each record stands at the number of its type
 abbrev atNumbers : ℕ → List JoinRecord → Bool

@@ -30,6 +30,10 @@ pub struct JoinRecord {
     pub left_preserved: bool,
     /// Whether a filter of the condition may be pushed below the right side.
     pub right_preserved: bool,
+    /// Whether the result is empty where the build side, the left one, is.
+    pub empty_build_side: bool,
+    /// Whether the result is empty where no row of the build side can match.
+    pub empty_map: bool,
 }
 
 /// The ten join types, each at its own number.
@@ -40,6 +44,8 @@ pub const JOIN_TYPES: [JoinRecord; 10] = [
         outer: false,
         left_preserved: true,
         right_preserved: true,
+        empty_build_side: true,
+        empty_map: true,
     },
     JoinRecord {
         join_type: JoinType::Left,
@@ -47,6 +53,8 @@ pub const JOIN_TYPES: [JoinRecord; 10] = [
         outer: true,
         left_preserved: false,
         right_preserved: true,
+        empty_build_side: true,
+        empty_map: false,
     },
     JoinRecord {
         join_type: JoinType::Right,
@@ -54,6 +62,8 @@ pub const JOIN_TYPES: [JoinRecord; 10] = [
         outer: true,
         left_preserved: true,
         right_preserved: false,
+        empty_build_side: false,
+        empty_map: false,
     },
     JoinRecord {
         join_type: JoinType::Full,
@@ -61,6 +71,8 @@ pub const JOIN_TYPES: [JoinRecord; 10] = [
         outer: true,
         left_preserved: false,
         right_preserved: false,
+        empty_build_side: false,
+        empty_map: false,
     },
     JoinRecord {
         join_type: JoinType::LeftSemi,
@@ -68,6 +80,8 @@ pub const JOIN_TYPES: [JoinRecord; 10] = [
         outer: false,
         left_preserved: true,
         right_preserved: true,
+        empty_build_side: true,
+        empty_map: true,
     },
     JoinRecord {
         join_type: JoinType::RightSemi,
@@ -75,6 +89,8 @@ pub const JOIN_TYPES: [JoinRecord; 10] = [
         outer: false,
         left_preserved: true,
         right_preserved: true,
+        empty_build_side: true,
+        empty_map: true,
     },
     JoinRecord {
         join_type: JoinType::LeftAnti,
@@ -82,6 +98,8 @@ pub const JOIN_TYPES: [JoinRecord; 10] = [
         outer: false,
         left_preserved: false,
         right_preserved: true,
+        empty_build_side: true,
+        empty_map: false,
     },
     JoinRecord {
         join_type: JoinType::RightAnti,
@@ -89,6 +107,8 @@ pub const JOIN_TYPES: [JoinRecord; 10] = [
         outer: false,
         left_preserved: true,
         right_preserved: false,
+        empty_build_side: false,
+        empty_map: false,
     },
     JoinRecord {
         join_type: JoinType::LeftMark,
@@ -96,6 +116,8 @@ pub const JOIN_TYPES: [JoinRecord; 10] = [
         outer: false,
         left_preserved: false,
         right_preserved: true,
+        empty_build_side: true,
+        empty_map: false,
     },
     JoinRecord {
         join_type: JoinType::RightMark,
@@ -103,6 +125,8 @@ pub const JOIN_TYPES: [JoinRecord; 10] = [
         outer: false,
         left_preserved: true,
         right_preserved: false,
+        empty_build_side: false,
+        empty_map: false,
     },
 ];
 
@@ -141,6 +165,28 @@ impl JoinType {
     {
         let record = self.record();
         (record.left_preserved, record.right_preserved)
+    }
+
+    /// Whether the sides of such a join can be exchanged: they can in every type.
+    pub fn supports_swap(self) -> bool
+        ensures { λ r. ⌜ (r ≡ true) × (recordOf (recordOf self .swap) .swap ≡ self) ⌝ }
+    {
+        self.swap().swap() == self
+    }
+
+    /// Whether an empty build side makes the result empty.
+    pub fn empty_build_side_produces_empty_result(self) -> bool
+        ensures { λ r. ⌜ r ≡ recordOf self .«empty_build_side» ⌝ }
+    {
+        self.record().empty_build_side
+    }
+
+    /// Whether a build side of which no row can match makes the result empty.
+    pub fn empty_map_produces_empty_result(self) -> bool
+        ensures value { λ r. ⌜ r ≡ recordOf self .«empty_map» ⌝ }
+        ensures also_where_empty { λ r. ⌜ (r ≡ true → recordOf self .«empty_build_side» ≡ true) ⌝ }
+    {
+        self.record().empty_map
     }
 
     pub fn name(self) -> &'static str
