@@ -1,6 +1,11 @@
 ghost use mathlib.Core.Path.{_≡_};
+ghost use mathlib.Core.List.{map};
+ghost use lib.ListN.{length};
+ghost use Rattle.std.specs.Iters.{counting};
 ghost use Rattle.std.specs.Vec.{made};
+ghost use Rattle.constraints.specs.View.{keyOf};
 ghost use Rattle.dependencies.specs.Joins.{joined};
+ghost use Rattle.dependencies.specs.Keys.{keyDependency};
 ghost use Rattle.std.specs.Of.Vec.{vec-len};
 ghost use Rattle.dependencies.specs.View.{depOf, depsOf};
 ghost use Rattle.open_events.specs.Unique.{somePasses, isKeyOn};
@@ -41,7 +46,9 @@ impl Relation {
         table: &[u8],
         names: &[&[u8]],
         keys: &[Constraint],
-    ) -> Result<Relation, AnyError> {
+    ) -> Result<Relation, AnyError>
+        ensures { λ r. ⌜ made r (λ t. depsOf (t .dependencies) ≡ map (keyDependency (counting 0 (length (now (names .entry))))) (map keyOf (now (keys .entry)))) ⌝ }
+    {
         let reference = TableReference::bare(Name::new(table)?);
         let mut columns = Vec::new(heap);
         for name in names {
