@@ -1,0 +1,4 @@
+#[cfg(test)]
+mod bounded_lists;
+#[cfg(test)]
+mod join_types;
