@@ -2,3 +2,7 @@
 mod bounded_lists;
 #[cfg(test)]
 mod join_types;
+#[cfg(test)]
+mod references;
+#[cfg(test)]
+mod texts;
