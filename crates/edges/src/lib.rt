@@ -1,6 +1,8 @@
 #[cfg(test)]
 mod bounded_lists;
 #[cfg(test)]
+mod column_lists;
+#[cfg(test)]
 mod join_types;
 #[cfg(test)]
 mod references;
