@@ -7,6 +7,8 @@ mod dependency_sets;
 #[cfg(test)]
 mod join_types;
 #[cfg(test)]
+mod joins;
+#[cfg(test)]
 mod keys;
 #[cfg(test)]
 mod references;
