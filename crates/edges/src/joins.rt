@@ -44,6 +44,11 @@ fn twenty(kept: usize) -> Result<FunctionalDependencies, Refusal> {
     Ok(set)
 }
 
+// One dependency of one source and one target.
+fn alone(source: u16, target: u16, nullable: bool) -> Result<FunctionalDependencies, Refusal> {
+    times(pair(source, target, nullable)?, 1)
+}
+
 #[test]
 fn a_left_width_of_64_is_taken_and_of_65_refused_in_every_type() -> Result<(), Fail> {
     let some = times(pair(0, 1, false)?, 1)?;
@@ -62,43 +67,47 @@ fn a_left_width_of_64_is_taken_and_of_65_refused_in_every_type() -> Result<(), F
 
 #[test]
 fn an_inner_join_of_32_is_taken_and_of_33_refused() -> Result<(), Fail> {
-    let twelve = times(pair(0, 1, true)?, 12)?;
-    let full = times(pair(0, 1, false)?, 32)?;
-    let one = times(pair(0, 1, false)?, 1)?;
-    let none = FunctionalDependencies::empty();
-    check_eq(twenty(16)?.join(&twelve, JoinType::Inner, 2)?.len(), 32)?;
-    check_eq(twelve.join(&twenty(0)?, JoinType::Inner, 2)?.len(), 32)?;
-    check_eq(full.join(&none, JoinType::Inner, 2)?.len(), 32)?;
-    check_eq(none.join(&full, JoinType::Inner, 2)?.len(), 32)?;
-    let thirteen = times(pair(0, 1, true)?, 13)?;
-    let oversize = Some(Refusal::Oversize);
+    let left = twenty(16)?;
+    let right = times(pair(0, 1, true)?, 12)?;
+    check_eq(left.join(&right, JoinType::Inner, 2)?.len(), 32)?;
+    check_eq(right.join(&left, JoinType::Inner, 2)?.len(), 32)?;
+    let right = times(pair(0, 1, true)?, 13)?;
     check_eq(
-        refusal(&twenty(0)?, &thirteen, JoinType::Inner, 2),
-        oversize,
+        refusal(&left, &right, JoinType::Inner, 2),
+        Some(Refusal::Oversize),
     )?;
-    check_eq(refusal(&full, &one, JoinType::Inner, 2), oversize)?;
-    check_eq(refusal(&one, &full, JoinType::Inner, 2), oversize)
+    check_eq(
+        refusal(&right, &left, JoinType::Inner, 2),
+        Some(Refusal::Oversize),
+    )
+}
+
+#[test]
+fn a_full_side_is_joined_with_nothing_and_not_with_one() -> Result<(), Fail> {
+    let full = times(pair(0, 1, false)?, 32)?;
+    let one = alone(0, 1, false)?;
+    let none = FunctionalDependencies::empty();
+    for join_type in BOTH_SIDES {
+        check_eq(full.join(&none, join_type, 2)?.len(), 32)?;
+        check_eq(none.join(&full, join_type, 2)?.len(), 32)?;
+        check_eq(refusal(&full, &one, join_type, 2), Some(Refusal::Oversize))?;
+        check_eq(refusal(&one, &full, join_type, 2), Some(Refusal::Oversize))?;
+    }
+    Ok(())
 }
 
 #[test]
 fn what_padding_drops_does_not_count() -> Result<(), Fail> {
+    let all_lost = twenty(0)?;
+    let kept_12 = twenty(12)?;
+    let kept_13 = twenty(13)?;
     let oversize = Some(Refusal::Oversize);
-    check_eq(twenty(12)?.len(), 20)?;
-    check_eq(twenty(13)?.len(), 20)?;
-    check_eq(twenty(0)?.join(&twenty(12)?, JoinType::Left, 2)?.len(), 32)?;
-    check_eq(
-        refusal(&twenty(0)?, &twenty(13)?, JoinType::Left, 2),
-        oversize,
-    )?;
-    check_eq(twenty(12)?.join(&twenty(0)?, JoinType::Right, 2)?.len(), 32)?;
-    check_eq(
-        refusal(&twenty(13)?, &twenty(0)?, JoinType::Right, 2),
-        oversize,
-    )?;
-    check_eq(
-        refusal(&twenty(12)?, &twenty(12)?, JoinType::Inner, 2),
-        oversize,
-    )
+    check(all_lost.len() == 20 && kept_12.len() == 20 && kept_13.len() == 20)?;
+    check_eq(all_lost.join(&kept_12, JoinType::Left, 2)?.len(), 32)?;
+    check_eq(refusal(&all_lost, &kept_13, JoinType::Left, 2), oversize)?;
+    check_eq(kept_12.join(&all_lost, JoinType::Right, 2)?.len(), 32)?;
+    check_eq(refusal(&kept_13, &all_lost, JoinType::Right, 2), oversize)?;
+    check_eq(refusal(&all_lost, &kept_12, JoinType::Inner, 2), oversize)
 }
 
 #[test]
@@ -129,27 +138,22 @@ fn two_full_sides_are_taken_where_one_or_none_stays() -> Result<(), Fail> {
 #[test]
 fn the_right_side_is_moved_up_to_65535_and_not_beyond() -> Result<(), Fail> {
     let none = FunctionalDependencies::empty();
+    let last = alone(65535, 65535, false)?;
     let overrun = Some(Refusal::Overrun);
     for join_type in BOTH_SIDES {
         let nullable = join_type == JoinType::Left;
-        let last = times(pair(65535, 65535, nullable)?, 1)?;
-        check(
-            none.join(&times(pair(65471, 0, false)?, 1)?, join_type, 64)?
-                == times(pair(65535, 64, nullable)?, 1)?,
-        )?;
+        let moved = none.join(&alone(65471, 0, false)?, join_type, 64)?;
+        check(moved == alone(65535, 64, nullable)?)?;
         check_eq(
-            refusal(&none, &times(pair(65472, 0, false)?, 1)?, join_type, 64),
+            refusal(&none, &alone(65472, 0, false)?, join_type, 64),
             overrun,
         )?;
         check_eq(
-            refusal(&none, &times(pair(0, 65472, false)?, 1)?, join_type, 64),
+            refusal(&none, &alone(0, 65472, false)?, join_type, 64),
             overrun,
         )?;
-        check_eq(
-            refusal(&none, &times(pair(65535, 65535, false)?, 1)?, join_type, 1),
-            overrun,
-        )?;
-        check(none.join(&times(pair(65535, 65535, false)?, 1)?, join_type, 0)? == last)?;
+        check_eq(refusal(&none, &last, join_type, 1), overrun)?;
+        check(none.join(&last, join_type, 0)? == alone(65535, 65535, nullable)?)?;
     }
     Ok(())
 }
@@ -266,17 +270,15 @@ fn both_sides_stay_as_they_were() -> Result<(), Fail> {
 
 #[test]
 fn events_with_windows_keep_their_key_as_multi() -> Result<(), Fail> {
+    let events = events()?;
     let windows = FunctionalDependencies::empty();
     let dependence = FunctionalDependence::new(ColumnList::new(&[0])?, ColumnList::all(2)?, false);
     let multi = FunctionalDependencies::new(&[dependence])?;
-    let mut nullable = multi;
-    nullable.downgrade_dependencies();
-    check(events()?.join(&windows, JoinType::Inner, 2)? == multi)?;
-    check(events()?.join(&windows, JoinType::Left, 2)? == multi)?;
-    check(events()?.join(&windows, JoinType::Right, 2)? == nullable)?;
-    check_eq(events()?.join(&windows, JoinType::Full, 2)?.len(), 0)?;
-    check(events()?.join(&windows, JoinType::LeftSemi, 2)? == events()?)?;
-    check_eq(events()?.join(&windows, JoinType::RightSemi, 2)?.len(), 0)
+    check(events.join(&windows, JoinType::Inner, 2)? == multi)?;
+    check(events.join(&windows, JoinType::Left, 2)? == multi)?;
+    check_eq(events.join(&windows, JoinType::Full, 2)?.len(), 0)?;
+    check(events.join(&windows, JoinType::LeftSemi, 2)? == events)?;
+    check_eq(events.join(&windows, JoinType::RightSemi, 2)?.len(), 0)
 }
 
 #[test]
@@ -297,12 +299,21 @@ fn windows_with_events_move_the_key_by_three() -> Result<(), Fail> {
 
 #[test]
 fn the_left_dependencies_come_first_and_all_are_multi() -> Result<(), Fail> {
-    let left = times(pair(1, 0, true)?.with_mode(Dependency::Single), 1)?;
-    let right = times(constant(0)?.with_mode(Dependency::Single), 1)?;
+    let single = Dependency::Single;
+    let left = times(pair(1, 0, true)?.with_mode(single), 1)?;
+    let right = times(constant(0)?.with_mode(single), 1)?;
     let both = FunctionalDependencies::new(&[pair(1, 0, true)?, constant(2)?])?;
     check(left.join(&right, JoinType::Inner, 2)? == both)?;
-    check(left.join(&right, JoinType::Left, 2)? == times(pair(1, 0, true)?, 1)?)?;
-    check(left.join(&right, JoinType::Right, 2)? == times(constant(2)?, 1)?)?;
-    check(right.join(&right, JoinType::Left, 2)? == times(constant(0)?, 1)?)?;
-    check(right.join(&right, JoinType::Right, 2)? == times(constant(2)?, 1)?)
+    check(left.join(&right, JoinType::Left, 2)? == alone(1, 0, true)?)?;
+    check(left.join(&right, JoinType::Right, 2)? == times(constant(2)?, 1)?)
+}
+
+#[test]
+fn the_padded_side_loses_what_has_no_source() -> Result<(), Fail> {
+    let fixed = times(constant(0)?, 1)?;
+    let moved = times(constant(2)?, 1)?;
+    check(fixed.join(&fixed, JoinType::Left, 2)? == fixed)?;
+    check(fixed.join(&fixed, JoinType::Right, 2)? == moved)?;
+    let both = FunctionalDependencies::new(&[constant(0)?, constant(2)?])?;
+    check(fixed.join(&fixed, JoinType::Inner, 2)? == both)
 }

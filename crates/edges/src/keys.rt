@@ -40,14 +40,16 @@ fn a_list_of_64_keys_is_taken_and_of_65_refused() -> Result<(), Fail> {
 
 #[test]
 fn a_primary_key_is_not_a_unique_key() -> Result<(), Fail> {
-    check(primary(0)? == primary(0)?)?;
-    check(unique(0)? == unique(0)?)?;
-    check(!(primary(0)? == unique(0)?))?;
-    check(!(unique(0)? == primary(0)?))?;
-    check(!(primary(0)? == primary(65535)?))?;
-    let one = Constraints::new_unverified(&[primary(0)?])?;
-    check(!(one == Constraints::new_unverified(&[unique(0)?])?))?;
-    check(!(one == Constraints::new_unverified(&[primary(0)?, primary(0)?])?))
+    let key = primary(0)?;
+    let other = unique(0)?;
+    check(key == primary(0)?)?;
+    check(other == unique(0)?)?;
+    check(!(key == other))?;
+    check(!(other == key))?;
+    check(!(key == primary(65535)?))?;
+    let one = Constraints::new_unverified(&[key])?;
+    check(!(one == Constraints::new_unverified(&[other])?))?;
+    check(!(one == Constraints::new_unverified(&[key, key])?))
 }
 
 #[test]

@@ -52,13 +52,15 @@ fn the_parts_are_those_given() -> Result<(), Fail> {
 
 #[test]
 fn equal_references_have_one_form_and_the_same_parts() -> Result<(), Fail> {
+    let t = partial(b"", b"t")?;
     check_eq(bare(b"t")?, bare(b"t")?)?;
-    check_ne(bare(b"t")?, partial(b"", b"t")?)?;
-    check_ne(partial(b"", b"t")?, full(b"", b"", b"t")?)?;
+    check_ne(bare(b"t")?, t)?;
+    check_ne(t, full(b"", b"", b"t")?)?;
     check_ne(partial(b"s", b"t")?, partial(b"t", b"s")?)?;
     check_ne(partial(b"st", b"")?, partial(b"s", b"t")?)?;
-    check_eq(full(b"k", b"s", b"t")?, full(b"k", b"s", b"t")?)?;
-    check_ne(full(b"k", b"s", b"t")?, full(b"j", b"s", b"t")?)
+    let kst = full(b"k", b"s", b"t")?;
+    check_eq(kst, full(b"k", b"s", b"t")?)?;
+    check_ne(kst, full(b"j", b"s", b"t")?)
 }
 
 #[test]
