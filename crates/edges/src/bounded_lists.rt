@@ -11,15 +11,6 @@ fn three() -> Result<Bounded<u16, 3>, Full> {
 }
 
 #[test]
-fn a_new_list_is_empty() -> Result<(), Fail> {
-    let list: Bounded<u16, 3> = Bounded::new(9);
-    check(list.is_empty())?;
-    check_eq(list.len(), 0)?;
-    check(list.as_slice().is_empty())?;
-    check_eq(list.get(0), None)
-}
-
-#[test]
 fn a_push_to_a_full_list_answers_full_and_changes_nothing() -> Result<(), Fail> {
     let mut list: Bounded<u16, 3> = Bounded::new(0);
     for x in 1..4 {
@@ -29,17 +20,6 @@ fn a_push_to_a_full_list_answers_full_and_changes_nothing() -> Result<(), Fail> 
     check_eq(list.push(4), Err(Full))?;
     check_eq(list.len(), 3)?;
     check_eq(list.as_slice(), &[1, 2, 3][..])
-}
-
-#[test]
-fn a_list_of_no_places_is_empty_and_full() -> Result<(), Fail> {
-    let mut list: Bounded<u16, 0> = Bounded::new(7);
-    check(list.is_empty())?;
-    check_eq(list.push(7), Err(Full))?;
-    check_eq(list.extend_from_slice(&[]), Ok(()))?;
-    check_eq(list.extend_from_slice(&[7]), Err(Full))?;
-    check(!list.set(0, 7))?;
-    check_eq(list.len(), 0)
 }
 
 #[test]
@@ -68,21 +48,6 @@ fn set_past_the_end_answers_false_and_stores_nothing() -> Result<(), Fail> {
 }
 
 #[test]
-fn truncate_keeps_the_first_values() -> Result<(), Fail> {
-    let mut list = three()?;
-    list.truncate(usize::MAX);
-    check_eq(list.len(), 3)?;
-    list.truncate(3);
-    check_eq(list.len(), 3)?;
-    list.truncate(2);
-    check_eq(list.as_slice(), &[65535, 0][..])?;
-    list.truncate(0);
-    check(list.is_empty())?;
-    list.push(1)?;
-    check_eq(list.as_slice(), &[1][..])
-}
-
-#[test]
 fn extend_fills_the_list_exactly_or_changes_nothing() -> Result<(), Fail> {
     let mut list = Bounded::<u16, 3>::from_slice(0, &[1])?;
     check_eq(list.extend_from_slice(&[2, 3, 4]), Err(Full))?;
@@ -105,13 +70,4 @@ fn a_slice_of_the_size_is_taken_and_of_one_more_refused() -> Result<(), Fail> {
         Bounded::<u16, 3>::from_slice(0, &[4, 3, 2, 1]).err(),
         Some(Full),
     )
-}
-
-#[test]
-fn equality_sees_the_values_and_not_the_places_behind_them() -> Result<(), Fail> {
-    let mut list = three()?;
-    list.truncate(1);
-    check(list == Bounded::from_slice(8, &[65535])?)?;
-    check(!(list == three()?)).note("a beginning of the other")?;
-    check(!(list == Bounded::from_slice(0, &[65534])?))
 }

@@ -91,13 +91,3 @@ fn the_largest_offsets_overrun_all_but_the_empty_list() -> Result<(), Fail> {
     list.add_offset(usize::MAX)?;
     check(list.is_empty())
 }
-
-#[test]
-fn equal_lists_have_the_same_columns_in_the_same_order() -> Result<(), Fail> {
-    let list = ColumnList::new(&[0, 65535])?;
-    check(list == ColumnList::new(&[0, 65535])?)?;
-    check(!(list == ColumnList::new(&[65535, 0])?))?;
-    check(!(list == ColumnList::new(&[0])?))?;
-    check(!(list == ColumnList::new(&[0, 65535, 65535])?))?;
-    check(!(ColumnList::empty() == ColumnList::new(&[0])?))
-}

@@ -15,27 +15,6 @@ fn swap_twice_gives_the_type_back() -> Result<(), Fail> {
 }
 
 #[test]
-fn swap_exchanges_the_preserved_sides() -> Result<(), Fail> {
-    for record in JOIN_TYPES {
-        let (left, right) = record.join_type.on_lr_is_preserved();
-        check_eq(record.join_type.swap().on_lr_is_preserved(), (right, left))?;
-    }
-    Ok(())
-}
-
-#[test]
-fn left_right_and_full_alone_are_outer() -> Result<(), Fail> {
-    for record in JOIN_TYPES {
-        let outer = match record.join_type {
-            JoinType::Left | JoinType::Right | JoinType::Full => true,
-            _ => false,
-        };
-        check_eq(record.join_type.is_outer(), outer)?;
-    }
-    Ok(())
-}
-
-#[test]
 fn the_number_is_the_place_in_the_table() -> Result<(), Fail> {
     check_eq(JOIN_TYPES.len(), 10)?;
     for (place, record) in JOIN_TYPES.iter().enumerate() {

@@ -83,20 +83,6 @@ fn an_inner_join_of_32_is_taken_and_of_33_refused() -> Result<(), Fail> {
 }
 
 #[test]
-fn a_full_side_is_joined_with_nothing_and_not_with_one() -> Result<(), Fail> {
-    let full = times(pair(0, 1, false)?, 32)?;
-    let one = alone(0, 1, false)?;
-    let none = FunctionalDependencies::empty();
-    for join_type in BOTH_SIDES {
-        check_eq(full.join(&none, join_type, 2)?.len(), 32)?;
-        check_eq(none.join(&full, join_type, 2)?.len(), 32)?;
-        check_eq(refusal(&full, &one, join_type, 2), Some(Refusal::Oversize))?;
-        check_eq(refusal(&one, &full, join_type, 2), Some(Refusal::Oversize))?;
-    }
-    Ok(())
-}
-
-#[test]
 fn what_padding_drops_does_not_count() -> Result<(), Fail> {
     let all_lost = twenty(0)?;
     let kept_12 = twenty(12)?;
@@ -108,31 +94,6 @@ fn what_padding_drops_does_not_count() -> Result<(), Fail> {
     check_eq(kept_12.join(&all_lost, JoinType::Right, 2)?.len(), 32)?;
     check_eq(refusal(&kept_13, &all_lost, JoinType::Right, 2), oversize)?;
     check_eq(refusal(&all_lost, &kept_12, JoinType::Inner, 2), oversize)
-}
-
-#[test]
-fn two_full_sides_are_taken_where_one_or_none_stays() -> Result<(), Fail> {
-    let left = times(pair(0, 1, false)?, 32)?;
-    let right = times(pair(65535, 65535, true)?, 32)?;
-    for record in JOIN_TYPES {
-        let join_type = record.join_type;
-        match join_type {
-            JoinType::Inner | JoinType::Right => {
-                check_eq(
-                    refusal(&left, &right, join_type, 64),
-                    Some(Refusal::Oversize),
-                )?;
-            }
-            JoinType::Left | JoinType::LeftSemi | JoinType::LeftAnti | JoinType::LeftMark => {
-                check(left.join(&right, join_type, 64)? == left)?;
-            }
-            JoinType::RightSemi | JoinType::RightAnti | JoinType::RightMark => {
-                check(left.join(&right, join_type, 64)? == right)?;
-            }
-            JoinType::Full => check_eq(left.join(&right, join_type, 64)?.len(), 0)?,
-        }
-    }
-    Ok(())
 }
 
 #[test]
@@ -185,29 +146,6 @@ fn only_what_stays_can_overrun() -> Result<(), Fail> {
 }
 
 #[test]
-fn the_left_side_and_an_unmoved_right_side_do_not_overrun() -> Result<(), Fail> {
-    let last = times(pair(65535, 65535, false)?, 1)?;
-    let none = FunctionalDependencies::empty();
-    for join_type in BOTH_SIDES {
-        let nullable = join_type == JoinType::Right;
-        check(last.join(&none, join_type, 64)? == times(pair(65535, 65535, nullable)?, 1)?)?;
-    }
-    for join_type in [
-        JoinType::RightSemi,
-        JoinType::RightAnti,
-        JoinType::RightMark,
-    ] {
-        check(none.join(&last, join_type, 64)? == last)?;
-        check_eq(last.join(&none, join_type, 64)?.len(), 0)?;
-    }
-    for join_type in [JoinType::LeftSemi, JoinType::LeftAnti, JoinType::LeftMark] {
-        check(last.join(&last, join_type, 64)? == last)?;
-        check_eq(none.join(&last, join_type, 64)?.len(), 0)?;
-    }
-    check_eq(last.join(&last, JoinType::Full, 64)?.len(), 0)
-}
-
-#[test]
 fn oversize_is_told_before_overrun() -> Result<(), Fail> {
     let full = times(pair(0, 1, false)?, 32)?;
     let last = times(pair(65535, 0, false)?, 1)?;
@@ -226,28 +164,6 @@ fn oversize_is_told_before_overrun() -> Result<(), Fail> {
             refusal(&FunctionalDependencies::empty(), &last, join_type, 65),
             oversize,
         )?;
-    }
-    Ok(())
-}
-
-#[test]
-fn a_full_right_side_overruns_by_its_first_or_its_last() -> Result<(), Fail> {
-    let none = FunctionalDependencies::empty();
-    let mut at_front = times(pair(65535, 0, false)?, 1)?;
-    add(&mut at_front, pair(0, 1, false)?, 31)?;
-    let mut at_end = times(pair(0, 1, false)?, 31)?;
-    at_end.push(pair(0, 65535, false)?)?;
-    for join_type in BOTH_SIDES {
-        check_eq(
-            refusal(&none, &at_front, join_type, 1),
-            Some(Refusal::Overrun),
-        )?;
-        check_eq(
-            refusal(&none, &at_end, join_type, 1),
-            Some(Refusal::Overrun),
-        )?;
-        check_eq(refusal(&none, &at_front, join_type, 0), None)?;
-        check_eq(refusal(&none, &at_end, join_type, 0), None)?;
     }
     Ok(())
 }
@@ -295,17 +211,6 @@ fn windows_with_events_move_the_key_by_three() -> Result<(), Fail> {
     let right = windows.join(&events()?, JoinType::Right, 3)?;
     check(right == FunctionalDependencies::new(&[kept])?)?;
     check(windows.join(&events()?, JoinType::RightAnti, 3)? == events()?)
-}
-
-#[test]
-fn the_left_dependencies_come_first_and_all_are_multi() -> Result<(), Fail> {
-    let single = Dependency::Single;
-    let left = times(pair(1, 0, true)?.with_mode(single), 1)?;
-    let right = times(constant(0)?.with_mode(single), 1)?;
-    let both = FunctionalDependencies::new(&[pair(1, 0, true)?, constant(2)?])?;
-    check(left.join(&right, JoinType::Inner, 2)? == both)?;
-    check(left.join(&right, JoinType::Left, 2)? == alone(1, 0, true)?)?;
-    check(left.join(&right, JoinType::Right, 2)? == times(constant(2)?, 1)?)
 }
 
 #[test]

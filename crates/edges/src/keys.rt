@@ -39,20 +39,6 @@ fn a_list_of_64_keys_is_taken_and_of_65_refused() -> Result<(), Fail> {
 }
 
 #[test]
-fn a_primary_key_is_not_a_unique_key() -> Result<(), Fail> {
-    let key = primary(0)?;
-    let other = unique(0)?;
-    check(key == primary(0)?)?;
-    check(other == unique(0)?)?;
-    check(!(key == other))?;
-    check(!(other == key))?;
-    check(!(key == primary(65535)?))?;
-    let one = Constraints::new_unverified(&[key])?;
-    check(!(one == Constraints::new_unverified(&[other])?))?;
-    check(!(one == Constraints::new_unverified(&[key, key])?))
-}
-
-#[test]
 fn keys_are_extended_to_64_in_order() -> Result<(), Fail> {
     let mut keys = Constraints::new_unverified(&[primary(0)?])?;
     keys.extend(&Constraints::new_unverified(&[unique(1)?, unique(2)?])?)?;
@@ -121,21 +107,6 @@ fn each_key_gives_one_single_dependency_on_all_columns() -> Result<(), Fail> {
     let all = ColumnList::all(64)?;
     let first = FunctionalDependence::new(ColumnList::new(&[1])?, all, true);
     let second = FunctionalDependence::new(ColumnList::new(&[0])?, all, false);
-    let expected = [
-        first.with_mode(Dependency::Single),
-        second.with_mode(Dependency::Single),
-    ];
-    check(set == FunctionalDependencies::new(&expected)?)
-}
-
-#[test]
-fn key_columns_are_not_compared_with_the_width() -> Result<(), Fail> {
-    let empty = Constraint::PrimaryKey(ColumnList::empty());
-    let keys = Constraints::new_unverified(&[primary(65535)?, empty])?;
-    let set = from_keys(Some(keys), 0)?;
-    let none = ColumnList::empty();
-    let first = FunctionalDependence::new(ColumnList::new(&[65535])?, none, false);
-    let second = FunctionalDependence::new(none, none, false);
     let expected = [
         first.with_mode(Dependency::Single),
         second.with_mode(Dependency::Single),

@@ -11,6 +11,8 @@ mod joins;
 #[cfg(test)]
 mod keys;
 #[cfg(test)]
+mod projections;
+#[cfg(test)]
 mod references;
 #[cfg(test)]
 mod samples;

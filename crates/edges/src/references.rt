@@ -34,23 +34,6 @@ fn check_ascends(list: &[TableReference]) -> Result<(), Fail> {
 }
 
 #[test]
-fn the_parts_are_those_given() -> Result<(), Fail> {
-    let longest = [b'x'; 32];
-    let reference = full(b"", &longest, b"t")?;
-    check_eq(reference.catalog().copied(), Some(Name::new(b"")?))?;
-    check_eq(reference.schema().copied(), Some(Name::new(&longest)?))?;
-    check_eq(*reference.table(), Name::new(b"t")?)?;
-    let reference = partial(&longest, b"")?;
-    check_eq(reference.catalog().copied(), None)?;
-    check_eq(reference.schema().copied(), Some(Name::new(&longest)?))?;
-    check_eq(*reference.table(), Name::new(b"")?)?;
-    let reference = bare(&longest)?;
-    check_eq(reference.catalog().copied(), None)?;
-    check_eq(reference.schema().copied(), None)?;
-    check_eq(*reference.table(), Name::new(&longest)?)
-}
-
-#[test]
 fn equal_references_have_one_form_and_the_same_parts() -> Result<(), Fail> {
     let t = partial(b"", b"t")?;
     check_eq(bare(b"t")?, bare(b"t")?)?;
@@ -80,14 +63,6 @@ fn resolved_eq_compares_the_parts_that_both_have() -> Result<(), Fail> {
     let jst = full(b"j", b"s", b"t")?;
     check(!kst.resolved_eq(&jst))?;
     check(st.resolved_eq(&kst) && st.resolved_eq(&jst)).note("it is not transitive")
-}
-
-#[test]
-fn resolved_eq_takes_an_empty_part_as_a_part() -> Result<(), Fail> {
-    check(!partial(b"", b"t")?.resolved_eq(&partial(b"s", b"t")?))?;
-    check(partial(b"", b"t")?.resolved_eq(&bare(b"t")?))?;
-    check(full(b"", b"", b"")?.resolved_eq(&bare(b"")?))?;
-    check(!bare(b"")?.resolved_eq(&bare(&[0])?))
 }
 
 #[test]

@@ -84,25 +84,6 @@ fn the_longest_column_has_a_full_name_of_131_bytes() -> Result<(), Fail> {
 }
 
 #[test]
-fn empty_parts_leave_the_points_alone() -> Result<(), Fail> {
-    let none = Name::new(&[])?;
-    check_full_name(None, &none, b"")?;
-    check_full_name(Some(TableReference::bare(none)), &none, b".")?;
-    check_full_name(Some(TableReference::partial(none, none)), &none, b"..")?;
-    check_full_name(Some(TableReference::full(none, none, none)), &none, b"...")
-}
-
-#[test]
-fn a_point_in_a_name_can_give_another_column_s_full_name() -> Result<(), Fail> {
-    let under = Column::new(
-        Some(TableReference::bare(Name::new(b"t")?)),
-        Name::new(b"c")?,
-    );
-    let alone = Column::new_unqualified(Name::new(b"t.c")?);
-    check_eq(under.flat_name(), alone.flat_name())
-}
-
-#[test]
 fn first_position_of_a_number_is_the_least() -> Result<(), Fail> {
     let list = [65535u16, 0, 65534, 0, 65534];
     check_eq(first_position(&list[..], &65535), Some(0))?;
@@ -158,44 +139,4 @@ fn each_refusal_has_its_number_and_word() -> Result<(), Fail> {
         check_eq(Some(refusal.word()), WORDS.get(place).copied())?;
     }
     Ok(())
-}
-
-#[test]
-fn a_schema_error_keeps_its_number_and_word() -> Result<(), Fail> {
-    let name = Name::new(&[])?;
-    let errors = [
-        SchemaError::DuplicateQualifiedField {
-            qualifier: TableReference::bare(name),
-            name,
-        },
-        SchemaError::DuplicateUnqualifiedField { name },
-        SchemaError::AmbiguousReference {
-            field: Column::new_unqualified(name),
-        },
-        SchemaError::FieldNotFound {
-            field: MissingField::FullName(FullName::new(&[b'.'; 131])?),
-        },
-    ];
-    for (place, error) in errors.iter().enumerate() {
-        check_eq(usize::from(error.number()), place + 5)?;
-        check_eq(Refusal::Schema(*error).number(), error.number())?;
-        check_eq(Refusal::Schema(*error).word(), error.word())?;
-        check(Refusal::Schema(*error).schema_error().is_some())?;
-    }
-    check(Refusal::SameText.schema_error().is_none())
-}
-
-#[test]
-fn refusals_of_one_number_differ_by_their_column() -> Result<(), Fail> {
-    let long = Name::new(&[b'c'; 32])?;
-    let short = Name::new(&[b'c'; 31])?;
-    let refused = Refusal::Schema(SchemaError::DuplicateUnqualifiedField { name: long });
-    let other = Refusal::Schema(SchemaError::DuplicateUnqualifiedField { name: short });
-    check_eq(refused, refused)?;
-    check(!(refused == other))?;
-    let column = MissingField::Column(Column::new_unqualified(long));
-    let text = MissingField::FullName(FullName::new(&[b'c'; 32])?);
-    let by_column = Refusal::Schema(SchemaError::FieldNotFound { field: column });
-    let by_text = Refusal::Schema(SchemaError::FieldNotFound { field: text });
-    check(!(by_column == by_text))
 }
