@@ -1,0 +1,2 @@
+pub mod ColumnOrder
+pub mod CheckNames
