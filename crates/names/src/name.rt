@@ -1,4 +1,5 @@
 ghost use mathlib.Core.Path.{_≡_};
+ghost use mathlib.Core.List.{[]};
 ghost use Prim.Native.Nat.{_≤_};
 ghost use lib.ListN.{length};
 ghost use Rattle.std.specs.Orderings.{Decides};
@@ -27,6 +28,14 @@ pub struct FullName {
 }
 
 impl Name {
+    pub fn empty() -> Name
+        ensures { λ r. ⌜ textOf r ≡ [] ⌝ }
+    {
+        Name {
+            bytes: Bounded::new(0),
+        }
+    }
+
     pub fn new(text: &[u8]) -> Result<Name, Refusal>
         ensures { λ r. ⌜ Answers r (oversizeOver 32 (now (text .entry))) (λ n. textOf n ≡ now (text .entry)) ⌝ }
     {
@@ -45,6 +54,14 @@ impl Name {
 }
 
 impl FullName {
+    pub fn empty() -> FullName
+        ensures { λ r. ⌜ fullTextOf r ≡ [] ⌝ }
+    {
+        FullName {
+            bytes: Bounded::new(0),
+        }
+    }
+
     pub fn new(text: &[u8]) -> Result<FullName, Refusal>
         ensures { λ r. ⌜ Answers r (oversizeOver 131 (now (text .entry))) (λ n. fullTextOf n ≡ now (text .entry)) ⌝ }
     {

@@ -12,14 +12,6 @@ use crate::table_reference::TableReference;
 use bounded::list::Bounded;
 
 impl FullName {
-    fn empty() -> FullName
-        ensures { λ r. ⌜ fullTextOf r ≡ [] ⌝ }
-    {
-        FullName {
-            bytes: Bounded::new(0),
-        }
-    }
-
     fn ended(mut self, part: &Name) -> FullName
         requires { ⌜ length (fullTextOf self) ≤ 99 ⌝ }
         ensures value { λ r. ⌜ fullTextOf r ≡ fullTextOf self ++ textOf (now (part .entry)) ⌝ }

@@ -1,2 +1,3 @@
 pub mod ColumnOrder
 pub mod CheckNames
+pub mod Schemas

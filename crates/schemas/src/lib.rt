@@ -1,1 +1,2 @@
 pub mod check_names;
+pub mod dfschema;
