@@ -1,0 +1,2 @@
+#[cfg(test)]
+mod names_and_sizes;
