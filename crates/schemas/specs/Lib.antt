@@ -1,3 +1,4 @@
 pub mod ColumnOrder
 pub mod CheckNames
 pub mod Schemas
+pub mod Lookups

@@ -1,2 +1,3 @@
 pub mod check_names;
 pub mod dfschema;
+pub mod lookup;
