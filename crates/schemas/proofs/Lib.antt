@@ -1,2 +1,4 @@
 mod Found
+mod Kept
 mod Least
+mod There

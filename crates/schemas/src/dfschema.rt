@@ -39,7 +39,7 @@ pub struct Field {
 /// The columns of a relation, at most 64, and its dependencies.
 #[derive(Clone, Copy)]
 pub struct DFSchema {
-    fields: Bounded<Field, MAX_COLUMNS>,
+    pub(crate) fields: Bounded<Field, MAX_COLUMNS>,
     functional_dependencies: FunctionalDependencies,
 }
 
