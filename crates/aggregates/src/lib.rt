@@ -1,2 +1,4 @@
+#![tactic(auto)]
+
 pub mod aggregate;
 pub mod target;

@@ -1,3 +1,5 @@
+#![tactic(auto)]
+
 pub mod clones;
 pub mod equality;
 pub mod list;

@@ -1,2 +1,4 @@
+#![tactic(auto)]
+
 pub mod column_list;
 pub mod filter;

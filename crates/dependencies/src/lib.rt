@@ -1,3 +1,5 @@
+#![tactic(auto)]
+
 pub mod functional_dependencies;
 pub mod join;
 pub mod keys;

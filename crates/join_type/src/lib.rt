@@ -1,3 +1,5 @@
+#![tactic(auto)]
+
 ghost use Rattle.std.specs.Prelude.{◌≡◌, true};
 ghost use Rattle.join_type.specs.Table.{record_of, name_of, number_of, Ruled, ruled};
 

@@ -1,4 +1,4 @@
-mod Equal
 mod Pointed
 pub mod Refused
 pub mod FirstPlaces
+mod Same

@@ -3,5 +3,8 @@ pub mod FirstPlaces
 pub mod Named
 pub mod Names
 pub mod Order
+pub mod OrderLaws
 pub mod References
 pub mod Refusals
+pub mod Same
+pub mod SameLaws

@@ -1,8 +1,8 @@
 -- The order of names and of table references.
 use Rattle.std.specs.Prelude.{◌≡◌, ℕ, ◌<◌, List}
 use Rattle.std.specs.declared.cmp.Ordering.{Ordering}
-use Rattle.std.specs.Cmp.Lexicographic.{Lex}
-use Rattle.std.specs.Ordering.{MatchOrdering, Then}
+use Rattle.std.specs.Cmp.Lexicographic.{slice_cmp}
+use Rattle.std.specs.Ordering.{MatchOrdering, nat_cmp, ordering_then}
 use Rattle.names.specs.declared.table_reference.TableReference.{TableReference}
 use Rattle.names.specs.declared.table_reference.TableReference.TheVariants.{Bare, Partial, Full}
 use Rattle.names.specs.References.{parts_of}
@@ -11,8 +11,11 @@ abbrev pub ByNumber : ℕ → ℕ → Ordering → Type 0
 ByNumber x y r = MatchOrdering r (x < y) (x ≡ y) (y < x)
 
 -- the first byte that differs decides, and else the lengths do
+abbrev pub by_bytes : List ℕ → List ℕ → Ordering
+by_bytes = slice_cmp nat_cmp
+
 abbrev pub ByBytes : List ℕ → List ℕ → Ordering → Type 0
-ByBytes xs ys r = Lex ByNumber xs ys r
+ByBytes xs ys r = r ≡ by_bytes xs ys
 
 abbrev pub rank : TableReference → ℕ
 rank (Bare t) = 0
@@ -20,5 +23,8 @@ rank (Partial s t) = 1
 rank (Full c s t) = 2
 
 -- bare before partial before full, then part by part from the widest in
+abbrev pub in_order : TableReference → TableReference → Ordering
+in_order a b = ordering_then (nat_cmp (rank a) (rank b)) (slice_cmp by_bytes (parts_of a) (parts_of b))
+
 abbrev pub InOrder : TableReference → TableReference → Ordering → Type 0
-InOrder a b r = Then (ByNumber (rank a) (rank b)) (λ o. Lex ByBytes (parts_of a) (parts_of b) o) r
+InOrder a b r = r ≡ in_order a b

@@ -1,9 +1,9 @@
 ghost use Rattle.std.specs.Prelude.{◌≡◌, None, Decides};
 ghost use Rattle.names.specs.Columns.{column_of, full_text};
 ghost use Rattle.names.specs.Names.{full_text_of};
-ghost use Rattle.std.specs.Cmp.Rules.{comparing};
-ghost use Rattle.std.proofs.Common.{rules};
-ghost use Rattle.std.specs.Cmp as Keys;
+ghost use Rattle.names.specs.Same.{same_parts_and_text};
+ghost use Rattle.names.specs.SameLaws.{same_parts_and_text_equiv};
+ghost use Rattle.std.specs.Cmp.{on_equiv, partial_equiv_from_equiv};
 
 use crate::name::{FullName, Name};
 use crate::qualified::qualified_name;
@@ -43,15 +43,18 @@ impl Column {
 }
 
 impl PartialEq for Column {
-    ghost equals = { λ a b r. Decides r (column_of a ≡ column_of b) };
+    ghost eq = { λ a b. same_parts_and_text (column_of a) (column_of b) };
 
-    ghost laws = { Keys.partial_equiv_from_equiv (Prim.search (comparing, rules)) };
+    ghost laws = { partial_equiv_from_equiv (on_equiv column_of same_parts_and_text_equiv) };
 
-    fn eq(&self, other: &Column) -> bool {
+    fn eq(&self, other: &Column) -> bool
+        ensures tested { result ≡ same_parts_and_text (column_of self.now) (column_of other.now) }
+        ensures decides { Decides result (column_of self.now ≡ column_of other.now) }
+    {
         self.relation == other.relation && self.name == other.name
     }
 }
 
 impl Eq for Column {
-    ghost laws = { Prim.search (comparing, rules) };
+    ghost laws = { on_equiv column_of same_parts_and_text_equiv };
 }

@@ -1,9 +1,9 @@
 ghost use Rattle.std.specs.Prelude.{◌≡◌, Decides};
 ghost use Rattle.names.specs.Named.{missing_of, schema_of, schema_error_of, refusal_of};
 ghost use Rattle.names.specs.Refusals.{number_of, word_of, schema_number, schema_word};
-ghost use Rattle.std.specs.Cmp.Rules.{comparing};
-ghost use Rattle.std.proofs.Common.{rules};
-ghost use Rattle.std.specs.Cmp as Keys;
+ghost use Rattle.names.specs.Same.{same_named, same_schema_error, same_refusal};
+ghost use Rattle.names.specs.SameLaws.{same_named_equiv, same_schema_error_equiv, same_refusal_equiv};
+ghost use Rattle.std.specs.Cmp.{on_equiv, partial_equiv_from_equiv};
 
 use crate::column::Column;
 use crate::name::{FullName, Name};
@@ -133,11 +133,14 @@ impl Refusal {
 }
 
 impl PartialEq for MissingField {
-    ghost equals = { λ a b r. Decides r (missing_of a ≡ missing_of b) };
+    ghost eq = { λ a b. same_named (missing_of a) (missing_of b) };
 
-    ghost laws = { Keys.partial_equiv_from_equiv (Prim.search (comparing, rules)) };
+    ghost laws = { partial_equiv_from_equiv (on_equiv missing_of same_named_equiv) };
 
-    fn eq(&self, other: &MissingField) -> bool {
+    fn eq(&self, other: &MissingField) -> bool
+        ensures tested { result ≡ same_named (missing_of self.now) (missing_of other.now) }
+        ensures decides { Decides result (missing_of self.now ≡ missing_of other.now) }
+    {
         match (self, other) {
             (MissingField::Column(a), MissingField::Column(b)) => *a == *b,
             (MissingField::FullName(a), MissingField::FullName(b)) => *a == *b,
@@ -147,15 +150,18 @@ impl PartialEq for MissingField {
 }
 
 impl Eq for MissingField {
-    ghost laws = { Prim.search (comparing, rules) };
+    ghost laws = { on_equiv missing_of same_named_equiv };
 }
 
 impl PartialEq for SchemaError {
-    ghost equals = { λ a b r. Decides r (schema_of a ≡ schema_of b) };
+    ghost eq = { λ a b. same_schema_error (schema_of a) (schema_of b) };
 
-    ghost laws = { Keys.partial_equiv_from_equiv (Prim.search (comparing, rules)) };
+    ghost laws = { partial_equiv_from_equiv (on_equiv schema_of same_schema_error_equiv) };
 
-    fn eq(&self, other: &SchemaError) -> bool {
+    fn eq(&self, other: &SchemaError) -> bool
+        ensures tested { result ≡ same_schema_error (schema_of self.now) (schema_of other.now) }
+        ensures decides { Decides result (schema_of self.now ≡ schema_of other.now) }
+    {
         match (self, other) {
             (
                 SchemaError::AmbiguousReference { field: a },
@@ -183,19 +189,22 @@ impl PartialEq for SchemaError {
 }
 
 impl Eq for SchemaError {
-    ghost laws = { Prim.search (comparing, rules) };
+    ghost laws = { on_equiv schema_of same_schema_error_equiv };
 }
 
 impl PartialEq for Refusal {
-    ghost equals = { λ a b r. Decides r (refusal_of a ≡ refusal_of b) };
+    ghost eq = { λ a b. same_refusal (refusal_of a) (refusal_of b) };
 
-    ghost laws = { Keys.partial_equiv_from_equiv (Prim.search (comparing, rules)) };
+    ghost laws = { partial_equiv_from_equiv (on_equiv refusal_of same_refusal_equiv) };
 
-    fn eq(&self, other: &Refusal) -> bool {
+    fn eq(&self, other: &Refusal) -> bool
+        ensures tested { result ≡ same_refusal (refusal_of self.now) (refusal_of other.now) }
+        ensures decides { Decides result (refusal_of self.now ≡ refusal_of other.now) }
+    {
         self.number() == other.number() && self.schema_error() == other.schema_error()
     }
 }
 
 impl Eq for Refusal {
-    ghost laws = { Prim.search (comparing, rules) };
+    ghost laws = { on_equiv refusal_of same_refusal_equiv };
 }

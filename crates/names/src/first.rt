@@ -1,12 +1,29 @@
-ghost use Rattle.std.specs.Prelude.{◌≡◌, ◌<◌, true, false, length, MatchOption};
+ghost use Rattle.std.specs.Prelude.{◌≡◌, ◌<◌, Bool, true, false, length, MatchOption};
 ghost use Rattle.std.specs.List.{HoldsAt, AllWithin};
 
+/// Whether an entry is the one that is looked for.
+pub trait SameAs<X> {
+    ghost is_same: { Self → X → Bool };
+
+    fn same_as(&self, x: &X) -> bool
+        ensures { result ≡ is_same self.now x.now };
+}
+
+// Of one type, what `==` says.
+impl<T: PartialEq> SameAs<T> for T {
+    ghost is_same = { T.eq };
+
+    fn same_as(&self, x: &T) -> bool {
+        *self == *x
+    }
+}
+
 /// The least position in `list` whose entry is the same as `x`.
-pub fn first_position<T: PartialEq<X>, X>(list: &[T], x: &X) -> Option<usize>
-    ensures { MatchOption result (AllWithin (λ y. false ≡ eq y x.now) list.now 0 (length list.now)) (λ i. (i < length list.now) × HoldsAt (λ y. true ≡ eq y x.now) list.now i × AllWithin (λ y. false ≡ eq y x.now) list.now 0 i) }
+pub fn first_position<T: SameAs<X>, X>(list: &[T], x: &X) -> Option<usize>
+    ensures { MatchOption result (AllWithin (λ y. false ≡ T.is_same y x.now) list.now 0 (length list.now)) (λ i. (i < length list.now) × HoldsAt (λ y. true ≡ T.is_same y x.now) list.now i × AllWithin (λ y. false ≡ T.is_same y x.now) list.now 0 i) }
 {
     for (i, y) in list.iter().enumerate() {
-        if *y == *x {
+        if y.same_as(x) {
             return Some(i);
         }
     }

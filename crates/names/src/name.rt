@@ -1,9 +1,9 @@
 ghost use Rattle.std.specs.Prelude.{◌≡◌, ◌≤◌, [], length, Decides};
 ghost use Rattle.names.specs.Names.{text_of, full_text_of};
 ghost use Rattle.names.specs.Refusals.{Answers, oversize_over};
-ghost use Rattle.std.specs.Cmp.Rules.{comparing};
-ghost use Rattle.std.proofs.Common.{rules};
-ghost use Rattle.std.specs.Cmp as Keys;
+ghost use Rattle.std.specs.Cmp.{on_equiv, partial_equiv_from_equiv};
+ghost use Rattle.std.specs.Cmp.Lexicographic.{nat_list_eq_equiv};
+ghost use Rattle.std.specs.Str.{bytes_eq};
 
 use crate::error::Refusal;
 use bounded::list::Bounded;
@@ -79,29 +79,35 @@ impl FullName {
 }
 
 impl PartialEq for Name {
-    ghost equals = { λ a b r. Decides r (text_of a ≡ text_of b) };
+    ghost eq = { λ a b. bytes_eq (text_of a) (text_of b) };
 
-    ghost laws = { Keys.partial_equiv_from_equiv (Prim.search (comparing, rules)) };
+    ghost laws = { partial_equiv_from_equiv (on_equiv text_of nat_list_eq_equiv) };
 
-    fn eq(&self, other: &Name) -> bool {
+    fn eq(&self, other: &Name) -> bool
+        ensures tested { result ≡ bytes_eq (text_of self.now) (text_of other.now) }
+        ensures decides { Decides result (text_of self.now ≡ text_of other.now) }
+    {
         self.as_bytes() == other.as_bytes()
     }
 }
 
 impl PartialEq for FullName {
-    ghost equals = { λ a b r. Decides r (full_text_of a ≡ full_text_of b) };
+    ghost eq = { λ a b. bytes_eq (full_text_of a) (full_text_of b) };
 
-    ghost laws = { Keys.partial_equiv_from_equiv (Prim.search (comparing, rules)) };
+    ghost laws = { partial_equiv_from_equiv (on_equiv full_text_of nat_list_eq_equiv) };
 
-    fn eq(&self, other: &FullName) -> bool {
+    fn eq(&self, other: &FullName) -> bool
+        ensures tested { result ≡ bytes_eq (full_text_of self.now) (full_text_of other.now) }
+        ensures decides { Decides result (full_text_of self.now ≡ full_text_of other.now) }
+    {
         self.as_bytes() == other.as_bytes()
     }
 }
 
 impl Eq for Name {
-    ghost laws = { Prim.search (comparing, rules) };
+    ghost laws = { on_equiv text_of nat_list_eq_equiv };
 }
 
 impl Eq for FullName {
-    ghost laws = { Prim.search (comparing, rules) };
+    ghost laws = { on_equiv full_text_of nat_list_eq_equiv };
 }

@@ -1,17 +1,18 @@
-ghost use Rattle.std.specs.Prelude.{IsSomeAnd};
+ghost use Rattle.std.specs.Prelude.{Some, refl};
+ghost use Rattle.std.specs.Cmp.{on_po, on_total};
+ghost use Rattle.std.specs.Cmp.Lexicographic.{nat_list_cmp_total, texts_po, texts_ties};
 ghost use Rattle.names.specs.Names.{text_of};
-ghost use Rattle.names.specs.Order.{ByBytes, InOrder};
-ghost use Rattle.std.specs.Cmp.Rules.{comparing};
-ghost use Rattle.std.proofs.Common.{rules};
+ghost use Rattle.names.specs.Order.{by_bytes, in_order};
+ghost use Rattle.names.specs.OrderLaws.{in_order_total, in_order_partial, in_order_ties};
 
 use crate::name::Name;
 use crate::table_reference::TableReference;
 use std::cmp::Ordering;
 
 impl PartialOrd for Name {
-    ghost compares = { λ a b r. IsSomeAnd r (ByBytes (text_of a) (text_of b)) };
+    ghost partial_cmp = { λ a b. Some (by_bytes (text_of a) (text_of b)) };
 
-    ghost laws = { Prim.search (comparing, rules) };
+    ghost laws = { on_po text_of texts_po };
 
     fn partial_cmp(&self, other: &Name) -> Option<Ordering> {
         Some(self.cmp(other))
@@ -20,13 +21,13 @@ impl PartialOrd for Name {
 
 // The order of names, byte by byte.
 impl Ord for Name {
-    ghost orders = { λ a b. ByBytes (text_of a) (text_of b) };
+    ghost cmp = { λ a b. by_bytes (text_of a) (text_of b) };
 
-    ghost total = { Prim.search (comparing, rules) };
+    ghost total = { on_total text_of nat_list_cmp_total };
 
-    ghost matches_partial_cmp = { Prim.search (comparing, rules) };
+    ghost matches_partial_cmp = { λ a b. refl };
 
-    ghost matches_eq = { Prim.search (comparing, rules) };
+    ghost matches_eq = { λ a b. texts_ties (text_of a) (text_of b) };
 
     fn cmp(&self, other: &Name) -> Ordering {
         self.as_bytes().cmp(&other.as_bytes())
@@ -34,9 +35,9 @@ impl Ord for Name {
 }
 
 impl PartialOrd for TableReference {
-    ghost compares = { λ a b r. IsSomeAnd r (InOrder a b) };
+    ghost partial_cmp = { λ a b. Some (in_order a b) };
 
-    ghost laws = { Prim.search (comparing, rules) };
+    ghost laws = { in_order_partial };
 
     fn partial_cmp(&self, other: &TableReference) -> Option<Ordering> {
         Some(self.cmp(other))
@@ -45,13 +46,13 @@ impl PartialOrd for TableReference {
 
 // Bare before partial before full, then part by part from the widest in.
 impl Ord for TableReference {
-    ghost orders = { λ a b. InOrder a b };
+    ghost cmp = { in_order };
 
-    ghost total = { Prim.search (comparing, rules) };
+    ghost total = { in_order_total };
 
-    ghost matches_partial_cmp = { Prim.search (comparing, rules) };
+    ghost matches_partial_cmp = { λ a b. refl };
 
-    ghost matches_eq = { Prim.search (comparing, rules) };
+    ghost matches_eq = { in_order_ties };
 
     fn cmp(&self, other: &TableReference) -> Ordering {
         match (self, other) {

@@ -3,9 +3,9 @@ ghost use Rattle.std.specs.Option.{option_map};
 ghost use Rattle.bounded.specs.View.{list_of};
 ghost use Rattle.names.specs.Names.{text_of};
 ghost use Rattle.names.specs.References.{table_part, schema_part, catalog_part, parts_of, Compatible, Resolved};
-ghost use Rattle.std.specs.Cmp.Rules.{comparing};
-ghost use Rattle.std.proofs.Common.{rules};
-ghost use Rattle.std.specs.Cmp as Keys;
+ghost use Rattle.names.specs.Same.{same_texts};
+ghost use Rattle.names.specs.SameLaws.{same_texts_equiv};
+ghost use Rattle.std.specs.Cmp.{on_equiv, partial_equiv_from_equiv};
 
 use crate::name::Name;
 use bounded::list::Bounded;
@@ -86,14 +86,14 @@ impl TableReference {
         let mut parts = Bounded::new(Name::empty());
         // there is room: there are at most three parts
         match self {
-            TableReference::Bare { table } => {
+            Self::Bare { table } => {
                 let _ = parts.push(*table);
             }
-            TableReference::Partial { schema, table } => {
+            Self::Partial { schema, table } => {
                 let _ = parts.push(*schema);
                 let _ = parts.push(*table);
             }
-            TableReference::Full {
+            Self::Full {
                 catalog,
                 schema,
                 table,
@@ -126,11 +126,14 @@ fn compatible(a: Option<&Name>, b: Option<&Name>) -> bool
 }
 
 impl PartialEq for TableReference {
-    ghost equals = { λ a b r. Decides r (parts_of a ≡ parts_of b) };
+    ghost eq = { λ a b. same_texts (parts_of a) (parts_of b) };
 
-    ghost laws = { Keys.partial_equiv_from_equiv (Prim.search (comparing, rules)) };
+    ghost laws = { partial_equiv_from_equiv (on_equiv parts_of same_texts_equiv) };
 
-    fn eq(&self, other: &TableReference) -> bool {
+    fn eq(&self, other: &TableReference) -> bool
+        ensures tested { result ≡ same_texts (parts_of self.now) (parts_of other.now) }
+        ensures decides { Decides result (parts_of self.now ≡ parts_of other.now) }
+    {
         match (self, other) {
             (TableReference::Bare { table: a }, TableReference::Bare { table: b }) => *a == *b,
             (
@@ -161,5 +164,5 @@ impl PartialEq for TableReference {
 }
 
 impl Eq for TableReference {
-    ghost laws = { Prim.search (comparing, rules) };
+    ghost laws = { on_equiv parts_of same_texts_equiv };
 }

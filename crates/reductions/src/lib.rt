@@ -1,3 +1,5 @@
+#![tactic(auto)]
+
 mod column_sets;
 pub mod determined;
 pub mod group_by;

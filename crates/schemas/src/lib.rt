@@ -1,3 +1,5 @@
+#![tactic(auto)]
+
 pub mod check_names;
 pub mod dfschema;
 pub mod lookup;

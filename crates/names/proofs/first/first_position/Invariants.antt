@@ -3,4 +3,4 @@ use Rattle.std.specs.List.{AllWithin}
 use Rattle.names.proofs.first.first_position.Given as goal
 
 abbrev pub invariant-loop-i : goal.invariant-loop-i
-invariant-loop-i g l = AllWithin (λ y. false ≡ g.T.PartialEq.eq y l.x) l.list 0 l.i
+invariant-loop-i g l = AllWithin (λ y. false ≡ g.T.SameAs.is_same y l.x) l.list 0 l.i

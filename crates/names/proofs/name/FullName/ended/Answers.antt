@@ -7,9 +7,9 @@ use Rattle.names.proofs.name.FullName.ended.Goals as goal
 pub returns : goal.returns
 returns c =
     let old = full_text_of c.args.self in
-    let part = c.as-bytes.result.now in
-    let joined : list_of c.extend-from-slice.new.self ≡ old ++ part = search rules in
+    let part = c.as_bytes.result.now in
+    let joined : list_of c.extend_from_slice.new.self ≡ old ++ part = search rules in
     record {
-      value = joined ∙ ap (λ l. old ++ l) c.as-bytes.ensures.value;
-      long = omega (arith, ap length joined, length-append old part, c.as-bytes.ensures.few);
+      value = joined ∙ ap (λ l. old ++ l) c.as_bytes.ensures.value;
+      long = omega (arith, ap length joined, length-append old part, c.as_bytes.ensures.few);
     }
