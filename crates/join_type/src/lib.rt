@@ -211,7 +211,7 @@ impl JoinType {
 
 /// The table keeps its rules, by one test over the constant itself; the answer is the number of its records.
 pub fn table_rules() -> usize
-    ensures* { do ⌜ ruled (← (⟦JOIN_TYPES⟧).exit) ≡ true ⌝ }
+    ensures { ruled JOIN_TYPES ≡ true }
 {
     JOIN_TYPES.len()
 }
