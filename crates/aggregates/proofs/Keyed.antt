@@ -1,6 +1,6 @@
 -- The key of all names, and that the dependencies of a grouping list no missing column.
 use Rattle.std.proofs.Common.{◌≡◌, ℕ, zero, suc, ◌+◌, ◌<◌, ◌≤◌, Bool, true, false, cond, eqb, ltb, ◌⊎◌, List, [], ◌∷◌, ◌++◌, map, length, Some, None, filter, Option, sym, refl, ap, ◌∙◌, ⊎_elim, arith}
-use Rattle.std.specs.List.{range_with_len, AllByRecursion as All}
+use Rattle.std.specs.List.{range_with_len, AllByRecursion}
 use Rattle.std.proofs.ByRecursion.{all_kept_by}
 use Rattle.std.proofs.lemmas.Bool.{ne_eqb, eq-eqb, ltb-false, cond-true, cond-false}
 use Rattle.names.specs.declared.error.Refusal.{Refusal}
@@ -21,18 +21,18 @@ module _ (count : ℕ) (key : Dep) where
   no_key [] h = sym (cond-true _ _ _ (eq-eqb count 0 (⊎_elim (λ z. omega arith) (λ ne. absurd (ne refl)) h)))
   no_key (d ∷ ds) h = refl
 
-counting_below : (w a n : ℕ) → a + n ≤ w → All (λ c. c < w) (range_with_len a n)
+counting_below : (w a n : ℕ) → a + n ≤ w → AllByRecursion (λ c. c < w) (range_with_len a n)
 counting_below w a zero h = tt
 counting_below w a (suc n) h = (omega arith, counting_below w (a + 1) n (omega arith))
 
-each_given : {X Y : Type 0} (P : Y → Type 0) (g : X → Y) (xs : List X) → ((x : X) → P (g x)) → All P (map g xs)
+each_given : {X Y : Type 0} (P : Y → Type 0) (g : X → Y) (xs : List X) → ((x : X) → P (g x)) → AllByRecursion P (map g xs)
 each_given P g [] h = tt
 each_given P g (x ∷ xs) h = (h x, each_given P g xs h)
 
-or_key_all : (P : Dep → Type 0) (count : ℕ) (key : Dep) (ds : List Dep) → P key → All P ds → All P (or_key count key ds)
+or_key_all : (P : Dep → Type 0) (count : ℕ) (key : Dep) (ds : List Dep) → P key → AllByRecursion P ds → AllByRecursion P (or_key count key ds)
 or_key_all P count key [] k all = go (eqb count 0)
   where
-    go : (b : Bool) → All P (cond b [] (key ∷ []))
+    go : (b : Bool) → AllByRecursion P (cond b [] (key ∷ []))
     go true = tt
     go false = (k, tt)
 or_key_all P count key (d ∷ ds) k all = all
@@ -40,8 +40,8 @@ or_key_all P count key (d ∷ ds) k all = all
 pub aggregated_valid : (texts : List (List ℕ)) (ds : List Dep) (names : List (List ℕ)) (outs : List Field) → length names ≤ length outs → Valid (length outs) (aggregated texts ds names outs)
 aggregated_valid texts ds names outs few =
     let w = length outs in
-    let all : All (λ c. c < w) (range_with_len 0 w) = counting_below w 0 w (omega arith) in
-    let some : All (λ c. c < w) (range_with_len 0 (length names)) = counting_below w 0 (length names) (omega arith) in
+    let all : AllByRecursion (λ c. c < w) (range_with_len 0 w) = counting_below w 0 w (omega arith) in
+    let some : AllByRecursion (λ c. c < w) (range_with_len 0 (length names)) = counting_below w 0 (length names) (omega arith) in
     or_key_all (Within w) (length names) (group_key (length names) outs) (carried_deps texts ds names (range_with_len 0 w)) (record { sources = some; targets = all })
     (each_given (Within w) (carried_dep texts ds names (range_with_len 0 w)) (filter (is_carried texts names) ds)
     (λ d. record { sources = all_kept_by (is_among names (map _ d.sources)) (λ c. c < w) (range_with_len 0 (length names)) some; targets = all }))

@@ -1,9 +1,9 @@
-ghost use Rattle.std.specs.Prelude.{◌≡◌, ◌<◌, ◌≤◌, [], ◌∷◌, ◌++◌, length, Decides, MatchOption, ◌==◌, ◌≢◌, slice_index};
-ghost use Rattle.std.specs.List.{range_with_len, AllWithin, list_all, AllByRecursion as All};
+ghost use Rattle.std.specs.Prelude.{◌≡◌, ◌<◌, ◌≤◌, [], ◌∷◌, ◌++◌, length, Decides, MatchOption, ◌==◌, ◌≢◌, slice_index, nat_eq};
+ghost use Rattle.std.specs.List.{range_with_len, AllWithin, list_all, AllByRecursion};
 ghost use Rattle.names.specs.Refusals.{Answers, AnswersOr, oversize_over};
 ghost use Rattle.columns.specs.Columns.{columns_of, oversize_width, full_at, oversize_together, overrun_at, places, is_listed, shifted};
-ghost use Rattle.std.specs.Cmp.Rules.{comparing};
-ghost use Rattle.std.proofs.Common.{rules};
+ghost use Rattle.std.specs.Cmp.{on_equiv, partial_equiv_from_equiv};
+ghost use Rattle.std.specs.Cmp.Lexicographic.{pointwise, nat_list_eq_equiv};
 
 use bounded::list::Bounded;
 use names::error::Refusal;
@@ -36,7 +36,7 @@ impl ColumnList {
         }
     }
 
-    /// All columns of a schema of that width, in order.
+    /// AllByRecursion columns of a schema of that width, in order.
     pub fn all(width: usize) -> Result<ColumnList, Refusal>
         ensures { Answers result (oversize_width width) (λ l. columns_of l ≡ range_with_len 0 width) }
     {
@@ -87,7 +87,7 @@ impl ColumnList {
 
     /// Whether each column number is below the width.
     pub fn all_below(&self, width: usize) -> bool
-        ensures { Decides result (All (λ c. c < width) (columns_of self.now)) }
+        ensures { Decides result (AllByRecursion (λ c. c < width) (columns_of self.now)) }
     {
         for column in self.as_slice() {
             if *column as usize >= width {
@@ -157,11 +157,14 @@ impl ColumnList {
 }
 
 impl PartialEq for ColumnList {
-    ghost equals = { λ a b r. Decides r (columns_of a ≡ columns_of b) };
+    ghost eq = { λ a b. pointwise nat_eq (columns_of a) (columns_of b) };
 
-    ghost laws = { Prim.search (comparing, rules) };
+    ghost laws = { partial_equiv_from_equiv (on_equiv columns_of nat_list_eq_equiv) };
 
-    fn eq(&self, other: &ColumnList) -> bool {
+    fn eq(&self, other: &ColumnList) -> bool
+        ensures tested { result ≡ pointwise nat_eq (columns_of self.now) (columns_of other.now) }
+        ensures decides { Decides result (columns_of self.now ≡ columns_of other.now) }
+    {
         self.columns == other.columns
     }
 }

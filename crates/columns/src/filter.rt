@@ -16,7 +16,7 @@ pub trait Predicate {
 impl ColumnList {
     /// The columns that pass, in order.
     pub fn filter<P: Predicate>(&self, predicate: &P) -> ColumnList
-        ensures { columns_of result ≡ filter (passes predicate.now) (columns_of self.now) }
+        ensures { columns_of result ≡ filter (P.passes predicate.now) (columns_of self.now) }
     {
         let mut columns = Bounded::new(0);
         for column in self.as_slice() {
@@ -30,7 +30,7 @@ impl ColumnList {
 
     /// Whether each column passes.
     pub fn all_pass<P: Predicate>(&self, predicate: &P) -> bool
-        ensures { result ≡ list_all (passes predicate.now) (columns_of self.now) }
+        ensures { result ≡ list_all (P.passes predicate.now) (columns_of self.now) }
     {
         for column in self.as_slice() {
             if !predicate.test(*column) {

@@ -1,6 +1,6 @@
 -- The dependencies of a join are true of every table of joined rows.
 use Rattle.std.proofs.Common.{◌≡◌, ℕ, zero, suc, ◌+◌, ◌<◌, Bool, true, false, not, eqb, ◌⊎◌, List, [], ◌∷◌, ◌++◌, map, length, get_or, filter, sym, refl, ap, ◌∙◌, subst, inl, inr, ⊎_elim, map-id, arith}
-use Rattle.std.specs.List.{AllByRecursion as All}
+use Rattle.std.specs.List.{AllByRecursion}
 use Rattle.std.proofs.lemmas.List.{get_or_append_left, get_or-append-add}
 use Rattle.std.proofs.ByRecursion.{All-get_or, All-weaker, All-map, All-append, all_kept_by, kept_by_passes}
 use Rattle.std.proofs.lemmas.Bool.{and_parts, not-true, eqb-false}
@@ -14,7 +14,7 @@ use Rattle.dependencies.specs.declared.functional_dependencies.Dependency.{Depen
 use Rattle.dependencies.specs.declared.functional_dependencies.Dependency.TheVariants.{Multi}
 use Rattle.dependencies.proofs.Shown.{all_both, Shows, NullsAt, ShowsAt, NullFor, carried, keeps_shown, keeps_part, keeps_padded}
 
-all_of : {X : Type 0} (P : X → Type 0) → ((x : X) → P x) → (xs : List X) → All P xs
+all_of : {X : Type 0} (P : X → Type 0) → ((x : X) → P x) → (xs : List X) → AllByRecursion P xs
 all_of P h [] = tt
 all_of P h (x ∷ xs) = (h x, all_of P h xs)
 
@@ -36,7 +36,7 @@ module _ (w : ℕ) (side : Table) (wide : Wide w side) where
   row_wide : (i : ℕ) → i < length side → length (row_at side i) ≡ w
   row_wide i h = All-get_or (λ r. length r ≡ w) side i [] h wide
 
-  front_shows : (cs : List ℕ) (i : ℕ) (row behind : Row) → i < length side → All (λ c. c < w) cs → row ≡ row_at side i ++ behind → Shows (λ c. c) cs row (row_at side i)
+  front_shows : (cs : List ℕ) (i : ℕ) (row behind : Row) → i < length side → AllByRecursion (λ c. c < w) cs → row ≡ row_at side i ++ behind → Shows (λ c. c) cs row (row_at side i)
   front_shows cs i row behind h in-w e =
       All-weaker (λ c. c < w) (λ c. cell_at row c ≡ cell_at (row_at side i) c) (λ c hc. front_cell (row_at side i) behind row c (omega (arith, row_wide i h)) e) cs in-w
 
@@ -60,7 +60,7 @@ right_alone_at w d right j row nulls h long e =
 
 front_null : (w : ℕ) (d : Dep) (row nulls behind : Row) → Within w d → Nulls nulls → length nulls ≡ w → row ≡ nulls ++ behind → NullFor (λ c. c) d row
 front_null w d row nulls behind v n long e =
-    let null-at : (cs : List ℕ) → All (λ c. c < w) cs → NullsAt (λ c. c) cs row = All-weaker (λ c. c < w) (λ c. cell_at row c ≡ null) (λ c hc. front_cell nulls behind row c (omega (arith, long)) e ∙ nulls_at nulls c n) in
+    let null-at : (cs : List ℕ) → AllByRecursion (λ c. c < w) cs → NullsAt (λ c. c) cs row = All-weaker (λ c. c < w) (λ c. cell_at row c ≡ null) (λ c hc. front_cell nulls behind row c (omega (arith, long)) e ∙ nulls_at nulls c n) in
     record { sources = null-at d.sources v.sources; targets = null-at d.targets v.targets }
 
 -- columns that stay where they are
@@ -75,7 +75,7 @@ survivor d h =
     (not-true _ parts.0, λ e. eqb-false (length d.sources) 0 (not-true _ parts.1) (ap length e))
 
 module _ (w n : ℕ) (ls rs : List Dep) (lt rt t : Table) (wl : Wide w lt) (wr : Wide n rt) (vl : Valid w ls) (vr : Valid n rs) (kl : KeepsAll ls lt) (kr : KeepsAll rs rt) where
-  at_row : (P : Row → Type 0) → All P t → (i : ℕ) → i < length t → P (row_at t i)
+  at_row : (P : Row → Type 0) → AllByRecursion P t → (i : ℕ) → i < length t → P (row_at t i)
   at_row P all i h = All-get_or P t i [] h all
 
   -- each row has a left row in front
@@ -94,7 +94,7 @@ module _ (w n : ℕ) (ls rs : List Dep) (lt rt t : Table) (wl : Wide w lt) (wr :
   left_padded : ((d : Dep) → Within w d → (i : ℕ) → i < length t → ((at : ℕ) × ShowsAt (λ c. c) d lt (row_at t i) at) ⊎ NullFor (λ c. c) d (row_at t i)) → KeepsAll (map (with_mode Multi) (padded ls)) t
   left_padded shown =
       let stay = filter survives_nulls ls in
-      let both : All (λ d. Keeps d lt × Within w d) stay = all_kept_by survives_nulls (λ d. Keeps d lt × Within w d) ls (all_both (λ d. Keeps d lt) (Within w) (λ d. Keeps d lt × Within w d) (λ d k v. (k, v)) ls kl vl) in
+      let both : AllByRecursion (λ d. Keeps d lt × Within w d) stay = all_kept_by survives_nulls (λ d. Keeps d lt × Within w d) ls (all_both (λ d. Keeps d lt) (Within w) (λ d. Keeps d lt × Within w d) (λ d k v. (k, v)) ls kl vl) in
       All-map (λ d. Keeps d t) (with_mode Multi) (padded ls)
       (All-map (λ d. Keeps (with_mode Multi d) t) nullable_dep stay (all_both (λ d. Keeps d lt × Within w d) (λ d. survives_nulls d ≡ true) (λ d. Keeps (with_mode Multi (nullable_dep d)) t) (λ d k s. stays t d true Multi (keeps_padded (λ c. c) d lt t k.0 (survivor d s).0 (survivor d s).1 (shown d k.1))) stay both (kept_by_passes survives_nulls ls)))
 
@@ -113,18 +113,18 @@ module _ (w n : ℕ) (ls rs : List Dep) (lt rt t : Table) (wl : Wide w lt) (wr :
   right_of : (d : Dep) → (row : Row) → Beside lt rt row → (at : ℕ) × ShowsAt (λ c. c + w) d rt row at
   right_of d row b = (b.2.0, back_at w lt wl d rt b.0 b.2.0 row b.1 b.2.1 b.2.2)
 
-  inner_true : All (Beside lt rt) t → KeepsAll (joined Inner w ls rs) t
+  inner_true : AllByRecursion (Beside lt rt) t → KeepsAll (joined Inner w ls rs) t
   inner_true all =
       All-append (λ d. Keeps d t) _ _ (left_kept (λ d v i h. left_of d v (row_at t i) (at_row (Beside lt rt) all i h))) (right_kept (λ d i h. right_of d (row_at t i) (at_row (Beside lt rt) all i h)))
 
-  left_true : All (λ r. Beside lt rt r ⊎ LeftAlone lt r) t → KeepsAll (joined Left w ls rs) t
+  left_true : AllByRecursion (λ r. Beside lt rt r ⊎ LeftAlone lt r) t → KeepsAll (joined Left w ls rs) t
   left_true all =
       let row : (i : ℕ) → i < length t → Beside lt rt (row_at t i) ⊎ LeftAlone lt (row_at t i) = at_row (λ r. Beside lt rt r ⊎ LeftAlone lt r) all in
       All-append (λ d. Keeps d t) _ _
       (left_kept (λ d v i h. ⊎_elim (left_of d v (row_at t i)) (λ a. (a.0, front_at w lt wl d a.0 (row_at t i) a.2.0 a.1 v a.2.2)) (row i h)))
       (right_padded (λ d i h. ⊎_elim (λ b. inl (right_of d (row_at t i) b)) (λ a. inr (back_null w lt wl d a.0 (row_at t i) a.2.0 a.1 a.2.1 a.2.2)) (row i h)))
 
-  right_true : All (λ r. Beside lt rt r ⊎ RightAlone w rt r) t → KeepsAll (joined Right w ls rs) t
+  right_true : AllByRecursion (λ r. Beside lt rt r ⊎ RightAlone w rt r) t → KeepsAll (joined Right w ls rs) t
   right_true all =
       let row : (i : ℕ) → i < length t → Beside lt rt (row_at t i) ⊎ RightAlone w rt (row_at t i) = at_row (λ r. Beside lt rt r ⊎ RightAlone w rt r) all in
       All-append (λ d. Keeps d t) _ _

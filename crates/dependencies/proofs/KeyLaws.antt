@@ -1,6 +1,6 @@
 -- The dependencies of keys are kept exactly by the tables that have the keys.
 use Rattle.std.proofs.Common.{◌≡◌, ℕ, ◌<◌, List, [], ◌∷◌, map, refl, subst, arith}
-use Rattle.std.specs.List.{AllByRecursion as All}
+use Rattle.std.specs.List.{AllByRecursion}
 use Rattle.constraints.specs.Keys.{Key, primary_key, unique_key}
 use Rattle.dependencies.specs.Keys.{key_dependency}
 use Rattle.dependencies.specs.KeyTables.{HasKey, StandForKeys}
@@ -21,11 +21,11 @@ module _ (all : List ℕ) (t : Table) where
   keeps (primary_key cs) h = record { fixes = once_fixes (primary_key cs) h.0; once = λ _. h.0; never_null = λ _. h.1 }
   keeps (unique_key cs) h = record { fixes = once_fixes (unique_key cs) h; once = λ _. h; never_null = λ e. absurd (let z : ◌≡◌ {A = ℕ} 0 1 = cc in omega arith) }
 
-  have : (keys : List Key) → KeepsAll (map (key_dependency all) keys) t → All (HasKey t) keys
+  have : (keys : List Key) → KeepsAll (map (key_dependency all) keys) t → AllByRecursion (HasKey t) keys
   have [] kept = tt
   have (k ∷ keys) kept = (has k kept.0, have keys kept.1)
 
-  keep : (keys : List Key) → All (HasKey t) keys → KeepsAll (map (key_dependency all) keys) t
+  keep : (keys : List Key) → AllByRecursion (HasKey t) keys → KeepsAll (map (key_dependency all) keys) t
   keep [] h = tt
   keep (k ∷ keys) h = (keeps k h.0, keep keys h.1)
 

@@ -1,12 +1,12 @@
 -- Tables whose rows show the rows of another: what they keep of its dependencies.
 use Rattle.std.proofs.Common.{◌≡◌, ℕ, ◌<◌, Bool, true, false, ◌⊎◌, List, [], ◌∷◌, map, length, sym, refl, ap, ◌∙◌, subst, inl, inr, ⊎_elim, arith}
-use Rattle.std.specs.List.{AllByRecursion as All}
+use Rattle.std.specs.List.{AllByRecursion}
 use Rattle.dependencies.specs.Model.{Dep, dependence}
 use Rattle.dependencies.specs.Tables.{Row, Table, null, cell_at, row_at, Agree, Once, Keeps}
 use Rattle.dependencies.specs.declared.functional_dependencies.Dependency.{Dependency}
 use Rattle.dependencies.specs.declared.functional_dependencies.Dependency.TheVariants.{Single, Multi}
 
-pub all_both : {X : Type 0} (P Q R : X → Type 0) → ((x : X) → P x → Q x → R x) → (xs : List X) → All P xs → All Q xs → All R xs
+pub all_both : {X : Type 0} (P Q R : X → Type 0) → ((x : X) → P x → Q x → R x) → (xs : List X) → AllByRecursion P xs → AllByRecursion Q xs → AllByRecursion R xs
 all_both P Q R h [] p q = tt
 all_both P Q R h (x ∷ xs) p q = (h x p.0 q.0, all_both P Q R h xs p.1 q.1)
 
@@ -16,10 +16,10 @@ agree_itself (c ∷ cs) r = (refl, agree_itself cs r)
 
 -- the row r has at g c what r' has at c
 abbrev pub Shows : (ℕ → ℕ) → List ℕ → Row → Row → Type 0
-Shows g cs r r' = All (λ c. cell_at r (g c) ≡ cell_at r' c) cs
+Shows g cs r r' = AllByRecursion (λ c. cell_at r (g c) ≡ cell_at r' c) cs
 
 abbrev pub NullsAt : (ℕ → ℕ) → List ℕ → Row → Type 0
-NullsAt g cs r = All (λ c. cell_at r (g c) ≡ null) cs
+NullsAt g cs r = AllByRecursion (λ c. cell_at r (g c) ≡ null) cs
 
 module _ (g : ℕ → ℕ) where
   pub agree_back : (cs : List ℕ) (r s r' s' : Row) → Shows g cs r r' → Shows g cs s s' → Agree (map g cs) r s → Agree cs r' s'
@@ -34,12 +34,12 @@ module _ (g : ℕ → ℕ) where
   agree_nulls [] r s p q = tt
   agree_nulls (c ∷ cs) r s p q = (p.0 ∙ sym q.0, agree_nulls cs r s p.1 q.1)
 
-  shows_never_null : (cs : List ℕ) (r r' : Row) → Shows g cs r r' → All (λ c. cell_at r' c ≡ null → ⊥) cs → All (λ c. cell_at r c ≡ null → ⊥) (map g cs)
+  shows_never_null : (cs : List ℕ) (r r' : Row) → Shows g cs r r' → AllByRecursion (λ c. cell_at r' c ≡ null → ⊥) cs → AllByRecursion (λ c. cell_at r c ≡ null → ⊥) (map g cs)
   shows_never_null [] r r' p h = tt
   shows_never_null (c ∷ cs) r r' p h = ((λ e. h.0 (sym p.0 ∙ e)), shows_never_null cs r r' p.1 h.1)
 
   -- a row that shows one without nulls never agrees with one of nulls
-  apart : (cs : List ℕ) → (cs ≡ [] → ⊥) → (r s r' : Row) → Shows g cs r r' → NullsAt g cs s → All (λ c. cell_at r' c ≡ null → ⊥) cs → Agree (map g cs) r s → ⊥
+  apart : (cs : List ℕ) → (cs ≡ [] → ⊥) → (r s r' : Row) → Shows g cs r r' → NullsAt g cs s → AllByRecursion (λ c. cell_at r' c ≡ null → ⊥) cs → Agree (map g cs) r s → ⊥
   apart [] some r s r' p q h a = some refl
   apart (c ∷ cs) some r s r' p q h a = h.0 (sym p.0 ∙ a.0 ∙ q.0)
 

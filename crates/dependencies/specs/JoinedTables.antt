@@ -1,6 +1,6 @@
 -- The tables that a join of two tables can give, and what it means that the dependencies of a join are true.
 use Rattle.std.specs.Prelude.{◌≡◌, ℕ, ◌<◌, ◌⊎◌, List, [], ◌∷◌, ◌++◌, length}
-use Rattle.std.specs.List.{AllByRecursion as All}
+use Rattle.std.specs.List.{AllByRecursion}
 use Rattle.join_type.specs.declared.JoinType.{JoinType}
 use Rattle.join_type.specs.declared.JoinType.TheVariants.{Inner, Left, Right, Full, LeftSemi, RightSemi, LeftAnti, RightAnti, LeftMark, RightMark}
 use Rattle.dependencies.specs.Model.{Dep}
@@ -11,7 +11,7 @@ abbrev pub Beside : Table → Table → Row → Type 0
 Beside lt rt row = (i : ℕ) × (i < length lt) × ((j : ℕ) × (j < length rt) × (row ≡ row_at lt i ++ row_at rt j))
 
 abbrev pub Nulls : Row → Type 0
-Nulls r = All (λ c. c ≡ null) r
+Nulls r = AllByRecursion (λ c. c ≡ null) r
 
 -- a left row beside nulls
 abbrev pub LeftAlone : Table → Row → Type 0
@@ -36,10 +36,10 @@ OneMark behind = (mark : Cell) × (behind ≡ mark ∷ [])
 
 -- t is made of rows that a join of that type gives, in any order and number; of Semi, Anti and Mark each row of the side comes at most once
 abbrev pub JoinOf : JoinType → ℕ → Table → Table → Table → Type 0
-JoinOf Inner w lt rt t = All (Beside lt rt) t
-JoinOf Left w lt rt t = All (λ r. Beside lt rt r ⊎ LeftAlone lt r) t
-JoinOf Right w lt rt t = All (λ r. Beside lt rt r ⊎ RightAlone w rt r) t
-JoinOf Full w lt rt t = All (λ r. Beside lt rt r ⊎ (LeftAlone lt r ⊎ RightAlone w rt r)) t
+JoinOf Inner w lt rt t = AllByRecursion (Beside lt rt) t
+JoinOf Left w lt rt t = AllByRecursion (λ r. Beside lt rt r ⊎ LeftAlone lt r) t
+JoinOf Right w lt rt t = AllByRecursion (λ r. Beside lt rt r ⊎ RightAlone w rt r) t
+JoinOf Full w lt rt t = AllByRecursion (λ r. Beside lt rt r ⊎ (LeftAlone lt r ⊎ RightAlone w rt r)) t
 JoinOf LeftSemi w lt rt t = PartOf NoMore lt t
 JoinOf RightSemi w lt rt t = PartOf NoMore rt t
 JoinOf LeftAnti w lt rt t = PartOf NoMore lt t

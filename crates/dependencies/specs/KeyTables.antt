@@ -1,6 +1,6 @@
 -- When a table has a key, and what it means that dependencies stand for keys.
 use Rattle.std.specs.Prelude.{List}
-use Rattle.std.specs.List.{AllByRecursion as All}
+use Rattle.std.specs.List.{AllByRecursion}
 use Rattle.constraints.specs.Keys.{Key, primary_key, unique_key}
 use Rattle.dependencies.specs.Model.{Dep}
 use Rattle.dependencies.specs.Tables.{Table, Once, NeverNull, KeepsAll}
@@ -12,4 +12,4 @@ HasKey t (unique_key cs) = Once cs t
 
 -- a table keeps the dependencies exactly when it has the keys
 abbrev pub StandForKeys : List Key → List Dep → Type 0
-StandForKeys keys ds = (t : Table) → (KeepsAll ds t → All (HasKey t) keys) × (All (HasKey t) keys → KeepsAll ds t)
+StandForKeys keys ds = (t : Table) → (KeepsAll ds t → AllByRecursion (HasKey t) keys) × (AllByRecursion (HasKey t) keys → KeepsAll ds t)

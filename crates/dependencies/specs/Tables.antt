@@ -1,6 +1,6 @@
 -- Cells, rows and tables, and when a table keeps a dependency.
 use Rattle.std.specs.Prelude.{◌≡◌, ℕ, ◌<◌, ◌≤◌, Bool, true, false, List, [], length, ℤ, ◌≢◌, slice_index_or}
-use Rattle.std.specs.List.{AllByRecursion as All}
+use Rattle.std.specs.List.{AllByRecursion}
 use Rattle.dependencies.specs.Model.{Dep}
 use Rattle.dependencies.specs.declared.functional_dependencies.Dependency.TheVariants.{Single}
 
@@ -23,7 +23,7 @@ pub record ColumnType : Type 0 where
 pub record Code (bytes : List ℕ) : Type 0 where
   pub some : 1 ≤ length bytes
   pub few : length bytes ≤ 8
-  pub nonzero : All (λ b. (0 < b) × (b < 256)) bytes
+  pub nonzero : AllByRecursion (λ b. (0 < b) × (b < 256)) bytes
 
 abbrev pub Row : Type 0
 Row = List Cell
@@ -48,11 +48,11 @@ pub record RowFits (types : List ColumnType) (r : Row) : Type 0 where
   pub each : (c : ℕ) (s : ColumnType) → c < length types → CellFits (slice_index_or types c s) (cell_at r c)
 
 abbrev pub Fits : List ColumnType → Table → Type 0
-Fits types t = All (RowFits types) t
+Fits types t = AllByRecursion (RowFits types) t
 
 -- two rows agree on columns when their cells there are equal, null with null
 abbrev pub Agree : List ℕ → Row → Row → Type 0
-Agree cs r s = All (λ c. cell_at r c ≡ cell_at s c) cs
+Agree cs r s = AllByRecursion (λ c. cell_at r c ≡ cell_at s c) cs
 
 -- rows that agree on all sources agree on all targets
 abbrev pub Fixes : Dep → Table → Type 0
@@ -64,7 +64,7 @@ Once cs t = (i j : ℕ) → i < length t → j < length t → Agree cs (row_at t
 
 -- no cell of those columns is null
 abbrev pub NeverNull : List ℕ → Table → Type 0
-NeverNull cs t = (i : ℕ) → i < length t → All (λ c. cell_at (row_at t i) c ≢ null) cs
+NeverNull cs t = (i : ℕ) → i < length t → AllByRecursion (λ c. cell_at (row_at t i) c ≢ null) cs
 
 pub record Keeps (d : Dep) (t : Table) : Type 0 where
   pub fixes : Fixes d t
@@ -72,16 +72,16 @@ pub record Keeps (d : Dep) (t : Table) : Type 0 where
   pub never_null : d.nullable ≡ false → NeverNull d.sources t
 
 abbrev pub KeepsAll : List Dep → Table → Type 0
-KeepsAll ds t = All (λ d. Keeps d t) ds
+KeepsAll ds t = AllByRecursion (λ d. Keeps d t) ds
 
 -- each listed number is below the width
 pub record Within (n : ℕ) (d : Dep) : Type 0 where
-  pub sources : All (λ c. c < n) d.sources
-  pub targets : All (λ c. c < n) d.targets
+  pub sources : AllByRecursion (λ c. c < n) d.sources
+  pub targets : AllByRecursion (λ c. c < n) d.targets
 
 abbrev pub Valid : ℕ → List Dep → Type 0
-Valid n ds = All (Within n) ds
+Valid n ds = AllByRecursion (Within n) ds
 
 -- each row has that many cells
 abbrev pub Wide : ℕ → Table → Type 0
-Wide n t = All (λ r. length r ≡ n) t
+Wide n t = AllByRecursion (λ r. length r ≡ n) t

@@ -1,6 +1,6 @@
 -- Rows that agree on known columns agree on what these determine.
 use Rattle.std.proofs.Common.{◌≡◌, ℕ, ◌<◌, Bool, true, false, List, [], ◌∷◌, length, ⊎_elim}
-use Rattle.std.specs.List.{AllByRecursion as All, list_all}
+use Rattle.std.specs.List.{AllByRecursion, list_all}
 use Rattle.std.proofs.ByRecursion.{All-weaker}
 use Rattle.std.proofs.lemmas.Bool.{false≢true, and_parts, or_cases}
 use Rattle.columns.specs.Columns.{is_listed}
@@ -11,7 +11,7 @@ use Rattle.reductions.specs.Determined.{determined_by, is_determined}
 use Rattle.reductions.proofs.Listed.{all_at, all_from_pass}
 
 -- what follows from each element that passes follows if one passes
-some_gives : {X : Type 0} (p : X → Bool) (R : Type 0) (xs : List X) → All (λ x. p x ≡ true → R) xs → some_passes p xs ≡ true → R
+some_gives : {X : Type 0} (p : X → Bool) (R : Type 0) (xs : List X) → AllByRecursion (λ x. p x ≡ true → R) xs → some_passes p xs ≡ true → R
 some_gives p R [] h e = absurd (false≢true e)
 some_gives p R (x ∷ xs) h e = ⊎_elim h.0 (some_gives p R xs h.1) (or_cases (p x) (some_passes p xs) e)
 
@@ -25,7 +25,7 @@ module _ (known : ℕ → Bool) (ds : List Dep) (t : Table) (i j : ℕ) (keeps :
       (All-weaker (λ d. Keeps d t) (λ d. determined_by known c d ≡ true → Same c)
       (λ d k told.
       let parts = and_parts (is_listed d.targets c) (list_all known d.sources) told in
-      let sources : All Same d.sources = All-weaker (λ s. known s ≡ true) Same agree d.sources (all_from_pass known d.sources parts.1) in
+      let sources : AllByRecursion Same d.sources = All-weaker (λ s. known s ≡ true) Same agree d.sources (all_from_pass known d.sources parts.1) in
       all_at Same d.targets c (k.fixes i j hi hj sources) parts.0)
       ds keeps)
       e

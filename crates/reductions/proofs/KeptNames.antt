@@ -1,7 +1,7 @@
 -- The names at the answered positions mean the kept columns, and rows that agree on these agree on all that the names mean.
 use Rattle.std.proofs.Common.{◌≡◌, ℕ, suc, ◌<◌, Bool, true, false, cond, List, [], ◌∷◌, ◌++◌, map, length, get_or, is_some, IfSome, Some, None, Option, sym, refl, ap, ◌∙◌, subst, arith}
 use Rattle.std.specs.Option.{option_map, option_to_list as optional}
-use Rattle.std.specs.List.{AllByRecursion as All}
+use Rattle.std.specs.List.{AllByRecursion}
 use Rattle.std.specs.Str.{bytes_eq}
 use Rattle.std.proofs.ByRecursion.{All-append, All-weaker}
 use Rattle.std.proofs.lemmas.Slice.Eq.{bytes_eq-Decides}
@@ -29,11 +29,11 @@ module _ (names : List (List ℕ)) where
       go None h = tt
       go (Some p) h = (h.0, (bytes_eq-Decides (text_at names p) n).0 h.1)
 
-  pub places_within : (ns : List (List ℕ)) → All (λ p. p < length names) (first_places bytes_eq names ns)
+  pub places_within : (ns : List (List ℕ)) → AllByRecursion (λ p. p < length names) (first_places bytes_eq names ns)
   places_within [] = tt
   places_within (n ∷ ns) = All-append (λ p. p < length names) (optional (place n)) (first_places bytes_eq names ns) (one (place n) (place_of n)) (places_within ns)
     where
-      one : (r : Option ℕ) → IfSome r (λ p. (p < length names) × (text_at names p ≡ n)) → All (λ p. p < length names) (optional r)
+      one : (r : Option ℕ) → IfSome r (λ p. (p < length names) × (text_at names p ≡ n)) → AllByRecursion (λ p. p < length names) (optional r)
       one None h = tt
       one (Some p) h = (h.0, tt)
 
@@ -43,7 +43,7 @@ found_too true r h = refl
 found_too false None h = h
 found_too false (Some p) h = refl
 
-each_found : (ns : List (List ℕ)) → All (λ n. is_some (place ns n) ≡ true) ns
+each_found : (ns : List (List ℕ)) → AllByRecursion (λ n. is_some (place ns n) ≡ true) ns
 each_found [] = tt
 each_found (n ∷ ns) =
     (ap (λ b. is_some (cond b (Some 0) (option_map suc (place ns n)))) ((bytes_eq-Decides n n).1 refl), All-weaker (λ m. is_some (place ns m) ≡ true) (λ m. is_some (place (n ∷ ns) m) ≡ true) (λ m h. found_too (bytes_eq n m) (place ns m) h) ns (each_found ns))
@@ -53,16 +53,16 @@ module _ (texts names : List (List ℕ)) where
   abbrev Asked : ℕ → Type 0
   Asked c = (column_named texts (text_at texts c) ≡ Some c) × (is_some (place names (text_at texts c)) ≡ true)
 
-  meant_asked : (ns : List (List ℕ)) → All (λ n. is_some (place names n) ≡ true) ns → All Asked (meant texts ns)
+  meant_asked : (ns : List (List ℕ)) → AllByRecursion (λ n. is_some (place names n) ≡ true) ns → AllByRecursion Asked (meant texts ns)
   meant_asked [] found = tt
   meant_asked (n ∷ ns) found = All-append Asked (optional (column_named texts n)) (meant texts ns) (one (column_named texts n) refl (place_of texts n)) (meant_asked ns found.1)
     where
-      one : (r : Option ℕ) → column_named texts n ≡ r → IfSome r (λ p. (p < length texts) × (text_at texts p ≡ n)) → All Asked (optional r)
+      one : (r : Option ℕ) → column_named texts n ≡ r → IfSome r (λ p. (p < length texts) × (text_at texts p ≡ n)) → AllByRecursion Asked (optional r)
       one None e h = tt
       one (Some p) e h = ((ap (column_named texts) h.1 ∙ e, ap (λ m. is_some (place names m)) h.1 ∙ found.0), tt)
 
   -- the names at the places of asked columns mean these columns
-  names_mean : (cs : List ℕ) → All Asked cs → meant texts (names_at names (first_places bytes_eq names (map (text_at texts) cs))) ≡ cs
+  names_mean : (cs : List ℕ) → AllByRecursion Asked cs → meant texts (names_at names (first_places bytes_eq names (map (text_at texts) cs))) ≡ cs
   names_mean [] h = refl
   names_mean (c ∷ cs) h = one (place names (text_at texts c)) h.0.1 (place_of names (text_at texts c)) (names_mean cs h.1)
     where
@@ -85,7 +85,7 @@ module _ (texts names : List (List ℕ)) where
     abbrev kept' : List ℕ
     kept' = required_columns texts ds names
 
-    kept_asked : All Asked kept'
+    kept_asked : AllByRecursion Asked kept'
     kept_asked =
         let among = among_trans kept' asked (meant texts names) (reduced_among (all_columns texts) asked ds) (ordered_among (all_columns texts) (meant texts names)) in
         all_by Asked kept' (λ c h. all_at Asked (meant texts names) c (meant_asked names (each_found names)) (all_at (λ z. is_listed (meant texts names) z ≡ true) kept' c among h))
@@ -96,7 +96,7 @@ module _ (texts names : List (List ℕ)) where
     pub kept_decide : KeptDecide texts ds names (first_places bytes_eq names (map (text_at texts) kept'))
     kept_decide t i j keeps hi hj agree =
         let P : ℕ → Type 0 = λ c. cell_at (row_at t i) c ≡ cell_at (row_at t j) c in
-        let kept-agree : All P kept' = subst (λ (cs : List ℕ). All P cs) (names_mean kept' kept_asked) agree in
-        let implies : All (λ d. All P d.sources → All P d.targets) ds = All-weaker (λ d. Keeps d t) (λ d. All P d.sources → All P d.targets) (λ d k. k.fixes i j hi hj) ds keeps in
+        let kept-agree : AllByRecursion P kept' = subst (λ (cs : List ℕ). AllByRecursion P cs) (names_mean kept' kept_asked) agree in
+        let implies : AllByRecursion (λ d. AllByRecursion P d.sources → AllByRecursion P d.targets) ds = All-weaker (λ d. Keeps d t) (λ d. AllByRecursion P d.sources → AllByRecursion P d.targets) (λ d k. k.fixes i j hi hj) ds keeps in
         let within : Among asked (all_columns texts) = among_trans asked (meant texts names) (all_columns texts) (ordered_among (all_columns texts) (meant texts names)) meant_within in
         ordered_all P (all_columns texts) (meant texts names) meant_within (reduced_all P (all_columns texts) asked ds within implies kept-agree)

@@ -1,6 +1,6 @@
 -- Columns that are listed.
 use Rattle.std.proofs.Common.{◌≡◌, ℕ, zero, suc, ◌+◌, ◌<◌, ◌≤◌, Bool, true, false, cond, not, ◌&&◌, ◌||◌, eqb, List, [], ◌∷◌, ◌++◌, is_some, Some, None, filter, Option, sym, refl, ap, ◌∙◌, subst, ⊎_elim, arith}
-use Rattle.std.specs.List.{range_with_len, flat_map, AllByRecursion as All, list_all}
+use Rattle.std.specs.List.{range_with_len, flat_map, AllByRecursion, list_all}
 use Rattle.std.specs.Option.{option_map}
 use Rattle.std.proofs.ByRecursion.{All-append, all_kept_by, kept_by_passes}
 use Rattle.std.proofs.lemmas.Bool.{false≢true, or_cases, or_left, or_right, and_parts, cases_eq, eq-eqb, eqb-true}
@@ -14,19 +14,19 @@ listed_cons x xs c = go (eqb x c) (first_place xs c)
     go false None = refl
     go false (Some p) = refl
 
-pub all_at : (P : ℕ → Type 0) (xs : List ℕ) (c : ℕ) → All P xs → is_listed xs c ≡ true → P c
+pub all_at : (P : ℕ → Type 0) (xs : List ℕ) (c : ℕ) → AllByRecursion P xs → is_listed xs c ≡ true → P c
 all_at P [] c all e = absurd (false≢true e)
 all_at P (x ∷ xs) c all e =
     ⊎_elim (λ h. subst P (eqb-true x c h) all.0) (λ h. all_at P xs c all.1 h) (or_cases (eqb x c) (is_listed xs c) (sym (listed_cons x xs c) ∙ e))
 
-pub all_by : (P : ℕ → Type 0) (xs : List ℕ) → ((c : ℕ) → is_listed xs c ≡ true → P c) → All P xs
+pub all_by : (P : ℕ → Type 0) (xs : List ℕ) → ((c : ℕ) → is_listed xs c ≡ true → P c) → AllByRecursion P xs
 all_by P [] h = tt
 all_by P (x ∷ xs) h =
     (h x (listed_cons x xs x ∙ or_left (eqb x x) (is_listed xs x) (eq-eqb x x refl)), all_by P xs (λ c e. h c (listed_cons x xs c ∙ or_right (eqb x c) (is_listed xs c) e)))
 
 -- each column of the first list is in the second
 abbrev pub Among : List ℕ → List ℕ → Type 0
-Among xs ys = All (λ c. is_listed ys c ≡ true) xs
+Among xs ys = AllByRecursion (λ c. is_listed ys c ≡ true) xs
 
 pub among_itself : (xs : List ℕ) → Among xs xs
 among_itself xs = all_by (λ c. is_listed xs c ≡ true) xs (λ c h. h)
@@ -51,22 +51,22 @@ module _ (p : ℕ → Bool) where
   pub kept_passes : (xs : List ℕ) (c : ℕ) → is_listed (filter p xs) c ≡ true → p c ≡ true
   kept_passes xs c h = all_at (λ x. p x ≡ true) (filter p xs) c (kept_by_passes p xs) h
 
-pub all_from_pass : {X : Type 0} (p : X → Bool) (xs : List X) → list_all p xs ≡ true → All (λ x. p x ≡ true) xs
+pub all_from_pass : {X : Type 0} (p : X → Bool) (xs : List X) → list_all p xs ≡ true → AllByRecursion (λ x. p x ≡ true) xs
 all_from_pass p [] e = tt
 all_from_pass p (x ∷ xs) e = let parts = and_parts (p x) (list_all p xs) e in (parts.0, all_from_pass p xs parts.1)
 
-pub all_split : {X : Type 0} (P : X → Type 0) (xs ys : List X) → All P (xs ++ ys) → All P xs × All P ys
+pub all_split : {X : Type 0} (P : X → Type 0) (xs ys : List X) → AllByRecursion P (xs ++ ys) → AllByRecursion P xs × AllByRecursion P ys
 all_split P [] ys all = (tt, all)
 all_split P (x ∷ xs) ys all = let parts = all_split P xs ys all.1 in ((all.0, parts.0), parts.1)
 
 -- what holds of all lists put together holds of each
-pub all_joined : (P : ℕ → Type 0) (f : ℕ → List ℕ) (xs : List ℕ) (c : ℕ) → All P (flat_map f xs) → is_listed xs c ≡ true → All P (f c)
+pub all_joined : (P : ℕ → Type 0) (f : ℕ → List ℕ) (xs : List ℕ) (c : ℕ) → AllByRecursion P (flat_map f xs) → is_listed xs c ≡ true → AllByRecursion P (f c)
 all_joined P f [] c all e = absurd (false≢true e)
 all_joined P f (x ∷ xs) c all e =
     let parts = all_split P (f x) (flat_map f xs) all in
-    ⊎_elim (λ h. subst (λ (y : ℕ). All P (f y)) (eqb-true x c h) parts.0) (λ h. all_joined P f xs c parts.1 h) (or_cases (eqb x c) (is_listed xs c) (sym (listed_cons x xs c) ∙ e))
+    ⊎_elim (λ h. subst (λ (y : ℕ). AllByRecursion P (f y)) (eqb-true x c h) parts.0) (λ h. all_joined P f xs c parts.1 h) (or_cases (eqb x c) (is_listed xs c) (sym (listed_cons x xs c) ∙ e))
 
-pub joined_all : (P : ℕ → Type 0) (f : ℕ → List ℕ) (xs : List ℕ) → ((x : ℕ) → All P (f x)) → All P (flat_map f xs)
+pub joined_all : (P : ℕ → Type 0) (f : ℕ → List ℕ) (xs : List ℕ) → ((x : ℕ) → AllByRecursion P (f x)) → AllByRecursion P (flat_map f xs)
 joined_all P f [] h = tt
 joined_all P f (x ∷ xs) h = All-append P (f x) (flat_map f xs) (h x) (joined_all P f xs h)
 

@@ -1,6 +1,6 @@
 -- Two rows compare by the kept entries as by all.
 use Rattle.std.proofs.Common.{◌≡◌, ℕ, zero, suc, ◌+◌, ◌<◌, Bool, true, false, cond, List, [], ◌∷◌, ◌++◌, length, Some, None, filter, Option, Ordering, Less, Equal, Greater, sym, refl, ap, ◌∙◌, subst, arith}
-use Rattle.std.specs.List.{range_with_len, AllByRecursion as All}
+use Rattle.std.specs.List.{range_with_len, AllByRecursion}
 use Rattle.std.specs.Ordering.{ordering_then}
 use Rattle.std.specs.Option.{option_to_list as optional}
 use Rattle.std.proofs.ByRecursion.{All-append}
@@ -25,18 +25,18 @@ module _ (texts names : List (List ℕ)) (ds : List Dep) (marks : List Bool) (re
   entry = entry_order texts names orders (other i) (row_at t i) (other j) (row_at t j)
 
   -- a column that known columns determine
-  determined : (known : List ℕ) (c : ℕ) → All Same known → is_determined (is_listed known) ds c ≡ true → Same c
+  determined : (known : List ℕ) (c : ℕ) → AllByRecursion Same known → is_determined (is_listed known) ds c ≡ true → Same c
   determined known c agree e = determined_agree (is_listed known) ds t i j keeps hi hj (λ k h. all_at Same known k agree h) c e
 
   -- entries whose values are equal, and whose values are cells of one column
-  values_equal : (n : List ℕ) (r : Option ℕ) → column_named texts n ≡ r → value_in texts (other i) (row_at t i) n ≡ value_in texts (other j) (row_at t j) n → All Same (optional r)
+  values_equal : (n : List ℕ) (r : Option ℕ) → column_named texts n ≡ r → value_in texts (other i) (row_at t i) n ≡ value_in texts (other j) (row_at t j) n → AllByRecursion Same (optional r)
   values_equal n None e h = tt
   values_equal n (Some c) e h =
       let left : value_in texts (other i) (row_at t i) n ≡ cell_at (row_at t i) c = ap (λ (r : Option ℕ). elim r [ None ↦ other i n | Some c ↦ cell_at (row_at t i) c ]) e in
       let right : value_in texts (other j) (row_at t j) n ≡ cell_at (row_at t j) c = ap (λ (r : Option ℕ). elim r [ None ↦ other j n | Some c ↦ cell_at (row_at t j) c ]) e in
       (sym left ∙ h ∙ right, tt)
 
-  dropped_equal : (known n : List ℕ) (r : Option ℕ) → column_named texts n ≡ r → All Same known → is_dropped texts ds known n ≡ true → value_in texts (other i) (row_at t i) n ≡ value_in texts (other j) (row_at t j) n
+  dropped_equal : (known n : List ℕ) (r : Option ℕ) → column_named texts n ≡ r → AllByRecursion Same known → is_dropped texts ds known n ≡ true → value_in texts (other i) (row_at t i) n ≡ value_in texts (other j) (row_at t j) n
   dropped_equal known n None e agree h =
       absurd (false≢true (sym (ap (λ (r : Option ℕ). elim r [ None ↦ false | Some c ↦ is_determined (is_listed known) ds c ]) e) ∙ h))
   dropped_equal known n (Some c) e agree h =
@@ -51,26 +51,26 @@ module _ (texts names : List (List ℕ)) (ds : List Dep) (marks : List Bool) (re
   column k = column_named texts (text_at names k)
 
   -- a kept entry that does not tell the rows apart
-  kept_next : (a : ℕ) → mark_at marks a ≡ true → entry a ≡ Equal → All Same (before a) → All Same (before (a + 1))
+  kept_next : (a : ℕ) → mark_at marks a ≡ true → entry a ≡ Equal → AllByRecursion Same (before a) → AllByRecursion Same (before (a + 1))
   kept_next a mark e agree =
       let more : before (a + 1) ≡ before a ++ optional (column a) = kept_before_more texts names marks a ∙ ap (λ b. before a ++ cond b (optional (column a)) []) mark in
-      subst (λ (l : List ℕ). All Same l) (sym more) (All-append Same (before a) (optional (column a)) agree (values_equal (text_at names a) (column a) refl ((tells a _ _).0 e)))
+      subst (λ (l : List ℕ). AllByRecursion Same l) (sym more) (All-append Same (before a) (optional (column a)) agree (values_equal (text_at names a) (column a) refl ((tells a _ _).0 e)))
 
-  dropped_next : (a : ℕ) → mark_at marks a ≡ false → All Same (before a) → All Same (before (a + 1))
+  dropped_next : (a : ℕ) → mark_at marks a ≡ false → AllByRecursion Same (before a) → AllByRecursion Same (before (a + 1))
   dropped_next a mark agree =
       let more : before (a + 1) ≡ before a = kept_before_more texts names marks a ∙ ap (λ b. before a ++ cond b (optional (column a)) []) mark ∙ append-nil (before a) in
-      subst (λ (l : List ℕ). All Same l) (sym more) agree
+      subst (λ (l : List ℕ). AllByRecursion Same l) (sym more) agree
 
   same_rest : (o x y : Ordering) → (o ≡ Equal → x ≡ y) → ordering_then o x ≡ ordering_then o y
   same_rest Less x y h = refl
   same_rest Equal x y h = h refl
   same_rest Greater x y h = refl
 
-  alike : (n a : ℕ) → a + n ≡ length names → All Same (before a) → compare_by entry (filter (mark_at marks) (range_with_len a n)) ≡ compare_by entry (range_with_len a n)
+  alike : (n a : ℕ) → a + n ≡ length names → AllByRecursion Same (before a) → compare_by entry (filter (mark_at marks) (range_with_len a n)) ≡ compare_by entry (range_with_len a n)
   alike zero a e agree = refl
   alike (suc n) a e agree = go (mark_at marks a) refl (λ agrees. alike n (a + 1) (omega arith) agrees)
     where
-      go : (b : Bool) → mark_at marks a ≡ b → (All Same (before (a + 1)) → compare_by entry (filter (mark_at marks) (range_with_len (a + 1) n)) ≡ compare_by entry (range_with_len (a + 1) n)) → compare_by entry (cond b (a ∷ filter (mark_at marks) (range_with_len (a + 1) n)) (filter (mark_at marks) (range_with_len (a + 1) n))) ≡ ordering_then (entry a) (compare_by entry (range_with_len (a + 1) n))
+      go : (b : Bool) → mark_at marks a ≡ b → (AllByRecursion Same (before (a + 1)) → compare_by entry (filter (mark_at marks) (range_with_len (a + 1) n)) ≡ compare_by entry (range_with_len (a + 1) n)) → compare_by entry (cond b (a ∷ filter (mark_at marks) (range_with_len (a + 1) n)) (filter (mark_at marks) (range_with_len (a + 1) n))) ≡ ordering_then (entry a) (compare_by entry (range_with_len (a + 1) n))
       go true mark rest = same_rest (entry a) _ _ (λ equal. rest (kept_next a mark equal agree))
       go false mark rest =
           let told : is_dropped texts ds (before a) (text_at names a) ≡ true = not-false _ (sym (reduces.each a (omega arith)) ∙ mark) in

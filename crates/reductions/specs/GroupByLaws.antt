@@ -1,6 +1,6 @@
 -- What the reduction of group-by names means for rows.
 use Rattle.std.specs.Prelude.{◌≡◌, ℕ, ◌<◌, List, map, length, get_or}
-use Rattle.std.specs.List.{AllByRecursion as All}
+use Rattle.std.specs.List.{AllByRecursion}
 use Rattle.dependencies.specs.Model.{Dep}
 use Rattle.dependencies.specs.Tables.{Table, row_at, Agree, KeepsAll}
 use Rattle.reductions.specs.Meant.{meant, text_at}
@@ -16,4 +16,4 @@ KeptDecide texts ds names ps =
 
 -- each is a position of the list
 abbrev pub PositionsIn : List (List ℕ) → List ℕ → Type 0
-PositionsIn names ps = All (λ p. p < length names) ps
+PositionsIn names ps = AllByRecursion (λ p. p < length names) ps

@@ -20,12 +20,12 @@ law (Err e) refusal ds P h p = tt
 
 pub returns : goal.returns
 returns c =
-    let given = c.args.group-by-expr-names.now in
+    let given = c.args.group_by_expr_names.now in
     let names = names_of given in
-    let texts = texts_of c.args.aggr-input-schema.now in
-    let ds = dependencies_of c.args.aggr-input-schema.now in
-    let outs = fields_of c.args.aggr-schema.now in
+    let texts = texts_of c.args.aggr_input_schema.now in
+    let ds = dependencies_of c.args.aggr_input_schema.now in
+    let outs = fields_of c.args.aggr_schema.now in
     record {
       answer = c.aggregate.ensures;
-      valid-for-output = law c.aggregate.result (aggregate_refusal given outs) (aggregated texts ds names outs) (Valid (length outs)) c.aggregate.ensures (λ e. aggregated_valid texts ds names outs (omega (arith, few_names given outs e, length-map given full_text_of)));
+      valid_for_output = law c.aggregate.result (aggregate_refusal given outs) (aggregated texts ds names outs) (Valid (length outs)) c.aggregate.ensures (λ e. aggregated_valid texts ds names outs (omega (arith, few_names given outs e, length-map given full_text_of)));
     }

@@ -10,6 +10,6 @@ use Rattle.aggregates.proofs.aggregate.matched_places.Goals as goal
 pub returns : goal.returns
 returns c =
     let names = map full_text_of c.args.names.now in
-    let texts = map full_text_of c.args.field-names.now in
-    c.filter.ensures ∙ ap (λ l. filter (is_among names l) (columns_of c.numbers.result)) (ap (map full_text_of) c.as-slice.ensures.value ∙ c.names-at-column-names.ensures)
+    let texts = map full_text_of c.args.field_names.now in
+    c.filter.ensures ∙ ap (λ l. filter (is_among names l) (columns_of c.numbers.result)) (ap (map full_text_of) c.as_slice.ensures.value ∙ c.names_at-column_names.ensures)
     ∙ ap (filter (is_among names (map (text_at texts) (columns_of c.args.columns.now)))) (c.numbers.ensures ∙ ap (range_with_len 0) (sym (length-map c.args.names.now full_text_of)))

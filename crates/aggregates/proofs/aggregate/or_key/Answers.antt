@@ -11,7 +11,7 @@ returns-then-len-eq0 c =
     let ds = deps_of c.args.output in
     let key = group_key c.args.count c.args.fields.now in
     let none : length ds ≡ 0 = sym c.len.ensures.count ∙ c.if-len-eq0.true in
-    key_added c.args.count key ds c.if-count-gt0.true none (room_pushes c.push.result 32 ds _ _ c.push.ensures (omega (arith, none)) ∙ ap (λ k. ds ++ k ∷ []) c.group-key.ensures)
+    key_added c.args.count key ds c.if-count-gt0.true none (room_pushes c.push.result 32 ds _ _ c.push.ensures (omega (arith, none)) ∙ ap (λ k. ds ++ k ∷ []) c.group_key.ensures)
 
 pub returns-else-count-gt0 : goal.returns-else-count-gt0
 returns-else-count-gt0 c =

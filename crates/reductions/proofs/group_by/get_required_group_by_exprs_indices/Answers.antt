@@ -21,11 +21,11 @@ pub returns : goal.returns
 returns c =
     let texts = texts_of c.args.schema.now in
     let ds = dependencies_of c.args.schema.now in
-    let names = names_of c.args.group-by-expr-names.now in
-    let r = c.required-indices.result in
-    let said = c.required-indices.ensures in
+    let names = names_of c.args.group_by_expr_names.now in
+    let r = c.required_indices.result in
+    let said = c.required_indices.ensures in
     record {
       answer = said;
       kept_decide = law r _ (all_meant texts names) _ (KeptDecide texts ds names) said (kept_decide texts names ds);
-      positions-asked = law r _ (all_meant texts names) _ (PositionsIn names) said (positions_in texts names ds);
+      positions_asked = law r _ (all_meant texts names) _ (PositionsIn names) said (positions_in texts names ds);
     }

@@ -6,7 +6,7 @@ use Rattle.dependencies.specs.View.{dep_of}
 use Rattle.reductions.specs.GroupBy.{reduced, union, difference}
 use Rattle.reductions.proofs.Reduced.{reduced_more, reduces, leaves}
 use Rattle.reductions.proofs.group_by.reduce.Goals as goal
-use Rattle.reductions.proofs.group_by.reduce.Goals.{then-all-listed-in, else-all-listed-in}
+use Rattle.reductions.proofs.group_by.reduce.Goals.{then-all_listed_in, else-all_listed_in}
 
 pub loop-dependency-preserved : goal.loop-dependency-preserved
 loop-dependency-preserved c =
@@ -15,14 +15,14 @@ loop-dependency-preserved c =
     let ds = c.args.dependencies.now in
     let d = c.dependency-item.result in
     let step = reduced_more all cs ds c.loop-dependency.dependency-index d c.loop-dependency-test.true c.dependency-item.is in
-    let sources = c.source-indices-sources.ensures in
+    let sources = c.source_indices-sources.ensures in
     let Listed : List ℕ → _ = list_all (is_listed cs) in
-    elim c.if-all-listed-in.branch [
-      | then-all-listed-in w ↦
-          let next = w.merge-and-order-indices-required.ensures ∙ ap (λ l. union all l (columns_of c.source-indices-sources.result.now)) (w.set-difference-rest.ensures ∙ ap (difference cs) w.target-indices.ensures) ∙ ap (union all (difference cs (dep_of d).targets)) sources in
-          rw w.required-is (step _ (next ∙ sym (reduces all cs (dep_of d) (sym (w.if-all-listed-in.ensures ∙ ap Listed sources)))) ∙ c.loop-dependency.invariant)
-      | else-all-listed-in w ↦
-          rw w.required-is (step _ (sym (leaves all cs (dep_of d) (sym (w.if-all-listed-in.ensures ∙ ap Listed sources)))) ∙ c.loop-dependency.invariant)
+    elim c.if-all_listed_in.branch [
+      | then-all_listed_in w ↦
+          let next = w.merge_and_order_indices-required.ensures ∙ ap (λ l. union all l (columns_of c.source_indices-sources.result.now)) (w.set_difference-rest.ensures ∙ ap (difference cs) w.target_indices.ensures) ∙ ap (union all (difference cs (dep_of d).targets)) sources in
+          rw w.required-is (step _ (next ∙ sym (reduces all cs (dep_of d) (sym (w.if-all_listed_in.ensures ∙ ap Listed sources)))) ∙ c.loop-dependency.invariant)
+      | else-all_listed_in w ↦
+          rw w.required-is (step _ (sym (leaves all cs (dep_of d) (sym (w.if-all_listed_in.ensures ∙ ap Listed sources)))) ∙ c.loop-dependency.invariant)
     ]
 
 pub returns : goal.returns

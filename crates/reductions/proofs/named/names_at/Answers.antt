@@ -8,17 +8,17 @@ use Rattle.reductions.proofs.named.names_at.Goals as goal
 
 pub loop-column-preserved : goal.loop-column-preserved
 loop-column-preserved c =
-    let text : ℕ → List ℕ = text_at (map full_text_of c.args.field-names.now) in
-    let xs = c.as-slice-column-items.result.now in
+    let text : ℕ → List ℕ = text_at (map full_text_of c.args.field_names.now) in
+    let xs = c.as_slice-column-items.result.now in
     let i = c.loop-column.column-index in
     let x = get_or xs i 0 in
     let out = list_of c.loop-column.names in
     let inside = c.loop-column-test.true in
     let room = pushed_long text xs i c.loop-column.invariant (omega arith) in
-    let pushed = c.push.ensures.pushed (omega (arith, room, length-map out full_text_of, c.as-slice-column-items.ensures.few)) in
-    pushed_more text xs i x (full_text_of c.name-at.result) c.loop-column.invariant inside (get_or_default xs i 0 x inside) c.name-at.ensures (ap (map full_text_of) pushed ∙ map_push full_text_of out c.name-at.result)
+    let pushed = c.push.ensures.pushed (omega (arith, room, length-map out full_text_of, c.as_slice-column-items.ensures.few)) in
+    pushed_more text xs i x (full_text_of c.name_at.result) c.loop-column.invariant inside (get_or_default xs i 0 x inside) c.name_at.ensures (ap (map full_text_of) pushed ∙ map_push full_text_of out c.name_at.result)
 
 pub returns : goal.returns
 returns c =
-    let text : ℕ → List ℕ = text_at (map full_text_of c.args.field-names.now) in
-    pushed_all text c.as-slice-column-items.result.now c.loop-column.column-index c.loop-column.invariant c.loop-column-test.false ∙ ap (map text) c.as-slice-column-items.ensures.value
+    let text : ℕ → List ℕ = text_at (map full_text_of c.args.field_names.now) in
+    pushed_all text c.as_slice-column-items.result.now c.loop-column.column-index c.loop-column.invariant c.loop-column-test.false ∙ ap (map text) c.as_slice-column-items.ensures.value

@@ -5,4 +5,4 @@ use Rattle.reductions.specs.Meant.{text_at}
 use Rattle.reductions.proofs.named.names_at.Given as goal
 
 abbrev pub invariant-loop-column : goal.invariant-loop-column
-invariant-loop-column l = map full_text_of (list_of l.names) ≡ map (text_at (map full_text_of l.field-names)) (take l.column-index l.column-items)
+invariant-loop-column l = map full_text_of (list_of l.names) ≡ map (text_at (map full_text_of l.field_names)) (take l.column-index l.column-items)

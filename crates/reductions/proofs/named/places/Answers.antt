@@ -21,7 +21,7 @@ loop-name-preserved c =
     let here : get_or names i (full_text_of x) ≡ full_text_of x = get_or-map full_text_of c.args.names.now i x (full_text_of x) c.loop-name-test.true ∙ ap full_text_of (sym c.name-item.is) in
     let so_far = c.loop-name.invariant in
     let First : List ℕ → Option ℕ = λ n. first_where (λ t. bytes_eq t n) texts in
-    elim c.match-first-position.branch [
+    elim c.match-first_position.branch [
       | in-Some w ↦
           let p = w.in-Some.place in
           let room : length (columns_of c.loop-name.places) < 64 = omega (arith, ap length so_far, places_few bytes_eq texts (take i names), length-take-le i names (omega arith), length-map c.args.names.now full_text_of, c.requires) in

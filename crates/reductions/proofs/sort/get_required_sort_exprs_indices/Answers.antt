@@ -15,8 +15,8 @@ law (Err e) refusal P U texts names ds marks h = tt
 
 pub returns : goal.returns
 returns c =
-    let es = c.args.sort-exprs.now in
+    let es = c.args.sort_exprs.now in
     record {
-      answer = c.mark-required.ensures;
-      compares_alike = law c.mark-required.result _ _ _ (texts_of c.args.schema.now) (sort_names es) (dependencies_of c.args.schema.now) (sort_marks c.mark-required.new.sort-exprs) c.mark-required.ensures;
+      answer = c.mark_required.ensures;
+      compares_alike = law c.mark_required.result _ _ _ (texts_of c.args.schema.now) (sort_names es) (dependencies_of c.args.schema.now) (sort_marks c.mark_required.new.sort_exprs) c.mark_required.ensures;
     }

@@ -5,5 +5,5 @@ use Rattle.dependencies.specs.View.{dep_of}
 use Rattle.reductions.proofs.Marked.{Marked}
 use Rattle.reductions.proofs.sort.mark_required.Given as goal
 
-abbrev pub invariant-loop-sort-expr : goal.invariant-loop-sort-expr
-invariant-loop-sort-expr l = Marked (map full_text_of l.field-names) (map dep_of l.dependencies) l.initial.sort-exprs l.sort-exprs (columns_of l.known) l.sort-expr-index × (length (columns_of l.known) ≤ l.sort-expr-index)
+abbrev pub invariant-loop-sort_expr : goal.invariant-loop-sort_expr
+invariant-loop-sort_expr l = Marked (map full_text_of l.field_names) (map dep_of l.dependencies) l.initial.sort_exprs l.sort_exprs (columns_of l.known) l.sort_expr-index × (length (columns_of l.known) ≤ l.sort_expr-index)

@@ -10,7 +10,7 @@ pub returns-in-Some : goal.returns-in-Some
 returns-in-Some c =
     let cs = c.args.columns.now in
     let column = c.args.column.now in
-    let bare = c.new-unqualified-bare.result in
-    let text : column_of bare ≡ ([], text_of column.name) = bare_text bare column.name c.new-unqualified-bare.ensures.reference c.new-unqualified-bare.ensures.named in
+    let bare = c.new_unqualified-bare.result in
+    let text : column_of bare ≡ ([], text_of column.name) = bare_text bare column.name c.new_unqualified-bare.ensures.reference c.new_unqualified-bare.ensures.named in
     let qualified : relation_parts column.relation ≡ [] → ⊥ = λ e. some_part _ (ap relation_parts (sym c.in-Some.is) ∙ e) in
-    subst (λ (b : Bool). Decides b (Ambiguous cs column)) (sym c.is-some.ensures) (found_tells cs column bare c.first-position.result qualified text c.first-position.ensures)
+    subst (λ (b : Bool). Decides b (Ambiguous cs column)) (sym c.is_some.ensures) (found_tells cs column bare c.first_position.result qualified text c.first_position.ensures)

@@ -4,7 +4,7 @@ use Rattle.std.proofs.lemmas.Bool.{false≢true}
 use Rattle.names.specs.declared.column.Column.{Column}
 use Rattle.schemas.proofs.Least.{NoneTo, LeastTo, SoFar, so_far_skip, so_far_all, least_first, least_lesser}
 use Rattle.schemas.proofs.check_names.least_ambiguous.Goals as goal
-use Rattle.schemas.proofs.check_names.least_ambiguous.Goals.{then-is-ambiguous+in-Some, then-is-ambiguous+in-None, else-is-ambiguous}
+use Rattle.schemas.proofs.check_names.least_ambiguous.Goals.{then-is_ambiguous+in-Some, then-is_ambiguous+in-None, else-is_ambiguous}
 
 pub loop-column-init : goal.loop-column-init
 loop-column-init c k d h a = omega arith
@@ -17,15 +17,15 @@ loop-column-preserved c =
     let inside = c.loop-column-test.true in
     let here = c.column-item.is in
     let Next : Option Column → Type 0 = SoFar cs (n + 1) in
-    elim c.if-is-ambiguous.branch [
-      | then-is-ambiguous+in-Some w ↦
+    elim c.if-is_ambiguous.branch [
+      | then-is_ambiguous+in-Some w ↦
           let other = w.in-Some.other in
           let before : LeastTo cs n other = MatchOption-at_some (NoneTo cs n) (LeastTo cs n) other w.in-Some.is c.loop-column.invariant in
-          subst Next (sym w.least-is) (subst (LeastTo cs (n + 1)) (sym w.lesser.ensures) (least_lesser cs n x inside here other before (w.if-is-ambiguous.ensures.0 refl)))
-      | then-is-ambiguous+in-None w ↦
+          subst Next (sym w.least-is) (subst (LeastTo cs (n + 1)) (sym w.lesser.ensures) (least_lesser cs n x inside here other before (w.if-is_ambiguous.ensures.0 refl)))
+      | then-is_ambiguous+in-None w ↦
           let before : NoneTo cs n = MatchOption-at_none (NoneTo cs n) (LeastTo cs n) w.in-None.is c.loop-column.invariant in
-          subst Next (sym w.least-is) (least_first cs n x inside here before (w.if-is-ambiguous.ensures.0 refl))
-      | else-is-ambiguous w ↦ subst Next (sym w.least-is) (so_far_skip cs n x inside here (λ a. false≢true (w.if-is-ambiguous.ensures.1 a)) c.loop-column.least c.loop-column.invariant)
+          subst Next (sym w.least-is) (least_first cs n x inside here before (w.if-is_ambiguous.ensures.0 refl))
+      | else-is_ambiguous w ↦ subst Next (sym w.least-is) (so_far_skip cs n x inside here (λ a. false≢true (w.if-is_ambiguous.ensures.1 a)) c.loop-column.least c.loop-column.invariant)
     ]
 
 pub returns : goal.returns

@@ -7,4 +7,4 @@ pub returns : goal.returns
 returns c =
     let xs = columns_of c.args.list.now in
     let cs = columns_of c.args.self.now in
-    ap (λ n. eqb n c.len-2.result) (c.len.ensures.count ∙ ap length c.places-in.ensures) ∙ ap (eqb (length (places xs cs))) c.len-2.ensures.count ∙ all_listed_is xs cs
+    ap (λ n. eqb n c.len-2.result) (c.len.ensures.count ∙ ap length c.places_in.ensures) ∙ ap (eqb (length (places xs cs))) c.len-2.ensures.count ∙ all_listed_is xs cs

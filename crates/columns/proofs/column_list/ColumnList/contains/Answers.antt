@@ -5,4 +5,4 @@ use Rattle.columns.proofs.column_list.ColumnList.contains.Goals as goal
 
 pub returns : goal.returns
 returns c =
-    c.is-some.ensures ∙ ap is_some (sym (first_place_is (columns_of c.args.self.now) c.args.column c.position.result c.position.ensures))
+    c.is_some.ensures ∙ ap is_some (sym (first_place_is (columns_of c.args.self.now) c.args.column c.position.result c.position.ensures))

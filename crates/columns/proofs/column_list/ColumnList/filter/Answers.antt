@@ -8,7 +8,7 @@ use Rattle.columns.proofs.column_list.ColumnList.filter.Goals.{then-test, else-t
 pub loop-column-preserved : goal.loop-column-preserved
 loop-column-preserved g c =
     let p = g.P.Predicate.passes c.args.predicate.now in
-    let xs = c.as-slice-column-items.result.now in
+    let xs = c.as_slice-column-items.result.now in
     let i = c.loop-column.column-index in
     let inside = c.loop-column-test.true in
     let so_far = c.loop-column.invariant in
@@ -16,7 +16,7 @@ loop-column-preserved g c =
     let here : x ≡ get_or xs i x = get_or_default xs i 0 x inside in
     elim c.if-test.branch [
       | then-test w ↦
-          let room : length (list_of c.loop-column.columns) < 64 = omega (arith, ap length so_far, kept_few p (take i xs), length-take-le i xs (omega arith), c.as-slice-column-items.ensures.few) in
+          let room : length (list_of c.loop-column.columns) < 64 = omega (arith, ap length so_far, kept_few p (take i xs), length-take-le i xs (omega arith), c.as_slice-column-items.ensures.few) in
           rw w.columns-is (kept_pushed p [] xs i x inside here so_far (sym w.if-test.ensures) (w.push.ensures.pushed room))
       | else-test w ↦ rw w.columns-is (kept_skipped p [] xs i x inside here so_far (sym w.if-test.ensures))
     ]
@@ -24,4 +24,4 @@ loop-column-preserved g c =
 pub returns : goal.returns
 returns g c =
     let p = g.P.Predicate.passes c.args.predicate.now in
-    kept_all p [] c.as-slice-column-items.result.now _ c.loop-column.invariant c.loop-column-test.false ∙ ap (filter p) c.as-slice-column-items.ensures.value
+    kept_all p [] c.as_slice-column-items.result.now _ c.loop-column.invariant c.loop-column-test.false ∙ ap (filter p) c.as_slice-column-items.ensures.value

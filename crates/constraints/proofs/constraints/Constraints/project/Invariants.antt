@@ -6,4 +6,4 @@ use Rattle.constraints.specs.Keys.{key_listed, projected_key}
 use Rattle.constraints.proofs.constraints.Constraints.project.Given as goal
 
 abbrev pub invariant-loop-key : goal.invariant-loop-key
-invariant-loop-key l = Sift key_of (key_listed (columns_of l.proj-indices)) (projected_key (columns_of l.proj-indices)) l.key-items (list_of l.projected.inner) l.count l.key-index
+invariant-loop-key l = Sift key_of (key_listed (columns_of l.proj_indices)) (projected_key (columns_of l.proj_indices)) l.key-items (list_of l.projected.inner) l.count l.key-index

@@ -7,7 +7,7 @@ use Rattle.dependencies.specs.View.{dep_of, deps_of}
 use Rattle.dependencies.proofs.functional_dependencies.FunctionalDependencies.extend_target_indices.Goals as goal
 
 pub loop-i-init : goal.loop-i-init
-loop-i-init c = rw c.as-slice-d-items.ensures.value (over_none (list_of c.args.self.now.deps))
+loop-i-init c = rw c.as_slice-d-items.ensures.value (over_none (list_of c.args.self.now.deps))
 
 pub loop-i-preserved : goal.loop-i-preserved
 loop-i-preserved c =
@@ -17,6 +17,6 @@ pub returns : goal.returns
 returns c =
     let said = c.in-ok-all.ensures in (
       said.0,
-      over_all c.loop-i.invariant c.loop-i-test.false ∙ ap (λ l. map (over_targets (columns_of c.in-ok-all.all)) (map dep_of l)) c.as-slice-d-items.ensures.value
+      over_all c.loop-i.invariant c.loop-i-test.false ∙ ap (λ l. map (over_targets (columns_of c.in-ok-all.all)) (map dep_of l)) c.as_slice-d-items.ensures.value
           ∙ ap (λ l. map (over_targets l) (deps_of c.args.self.now)) said.1,
     )

@@ -10,4 +10,4 @@ use Rattle.dependencies.proofs.functional_dependencies.FunctionalDependencies.ne
 pub returns : goal.returns
 returns c =
     let keys = keys_or (option_map (λ x. x.now) c.args.constraints) in
-    record { answer = c.of-keys.ensures; stand-for-keys = answers_law c.of-keys.result _ deps_of _ (StandForKeys keys) c.of-keys.ensures (keys_stand (range_with_len 0 c.args.n-field) keys) }
+    record { answer = c.of_keys.ensures; stand_for_keys = answers_law c.of_keys.result _ deps_of _ (StandForKeys keys) c.of_keys.ensures (keys_stand (range_with_len 0 c.args.n_field) keys) }

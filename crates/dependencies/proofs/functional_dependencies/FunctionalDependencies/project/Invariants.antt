@@ -6,4 +6,4 @@ use Rattle.dependencies.specs.View.{dep_of}
 use Rattle.dependencies.proofs.functional_dependencies.FunctionalDependencies.project.Given as goal
 
 abbrev pub invariant-loop-d : goal.invariant-loop-d
-invariant-loop-d l = Sift dep_of (sources_listed (columns_of l.proj-indices)) (projected_dep (columns_of l.proj-indices) (columns_of l.all)) l.d-items (list_of l.projected.deps) l.count l.d-index
+invariant-loop-d l = Sift dep_of (sources_listed (columns_of l.proj_indices)) (projected_dep (columns_of l.proj_indices) (columns_of l.all)) l.d-items (list_of l.projected.deps) l.count l.d-index

@@ -7,6 +7,6 @@ use Rattle.dependencies.proofs.functional_dependencies.FunctionalDependencies.pr
 
 pub returns : goal.returns
 returns c =
-    let proj = columns_of c.args.proj-indices.now in
+    let proj = columns_of c.args.proj_indices.now in
     let ds = deps_of c.args.self.now in
-    record { answer = c.project.ensures; true-of-projections = answers_law c.project.result _ deps_of _ (TrueOfProjections proj ds) c.project.ensures (projected_true proj c.args.n-out ds) }
+    record { answer = c.project.ensures; true_of_projections = answers_law c.project.result _ deps_of _ (TrueOfProjections proj ds) c.project.ensures (projected_true proj c.args.n_out ds) }

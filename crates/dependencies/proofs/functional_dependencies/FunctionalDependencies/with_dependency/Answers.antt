@@ -6,7 +6,7 @@ use Rattle.dependencies.specs.View.{dep_of}
 use Rattle.dependencies.proofs.functional_dependencies.FunctionalDependencies.with_dependency.Goals as goal
 
 pub loop-i-init : goal.loop-i-init
-loop-i-init c = rw c.as-slice-d-items.ensures.value (over_none (list_of c.args.self.now.deps))
+loop-i-init c = rw c.as_slice-d-items.ensures.value (over_none (list_of c.args.self.now.deps))
 
 pub loop-i-preserved : goal.loop-i-preserved
 loop-i-preserved c =
@@ -14,4 +14,4 @@ loop-i-preserved c =
 
 pub returns : goal.returns
 returns c =
-    over_all c.loop-i.invariant c.loop-i-test.false ∙ ap (λ l. map (with_mode c.args.mode) (map dep_of l)) c.as-slice-d-items.ensures.value
+    over_all c.loop-i.invariant c.loop-i-test.false ∙ ap (λ l. map (with_mode c.args.mode) (map dep_of l)) c.as_slice-d-items.ensures.value

@@ -5,4 +5,4 @@ use Rattle.schemas.proofs.dfschema.DFSchema.check_names.Goals as goal
 
 pub returns : goal.returns
 returns c =
-    subst (λ (l : List Column). Answered c.check-names.result (NamesAnswer l)) (c.as-slice.ensures.value ∙ c.columns.ensures) c.check-names.ensures
+    subst (λ (l : List Column). Answered c.check_names.result (NamesAnswer l)) (c.as_slice.ensures.value ∙ c.columns.ensures) c.check_names.ensures

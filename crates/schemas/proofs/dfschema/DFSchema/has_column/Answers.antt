@@ -5,8 +5,8 @@ use Rattle.schemas.proofs.dfschema.DFSchema.has_column.Goals as goal
 
 pub returns-in-Some : goal.returns-in-Some
 returns-in-Some c =
-    c.has-column-with-qualified-name.ensures ∙ sym (by_relation (fields_of c.args.self.now) c.args.column.now _ c.in-Some.is)
+    c.has_column_with_qualified_name.ensures ∙ sym (by_relation (fields_of c.args.self.now) c.args.column.now _ c.in-Some.is)
 
 pub returns-in-None : goal.returns-in-None
 returns-in-None c =
-    c.has-column-with-unqualified-name.ensures ∙ sym (by_relation (fields_of c.args.self.now) c.args.column.now _ c.in-None.is)
+    c.has_column_with_unqualified_name.ensures ∙ sym (by_relation (fields_of c.args.self.now) c.args.column.now _ c.in-None.is)

@@ -13,6 +13,6 @@ returns c =
     let q = c.args.qualifier.now in
     let n = c.args.name.now in
     let fs = c.fields.result.now in
-    let r = c.first-position.result in
+    let r = c.first_position.result in
     let P : Field → Type 0 = λ f. column_of f.column ≡ (parts_of q, text_of n) in
-    c.is-some.ensures ∙ found_is P (has_qualified_name q n) (has_qualified_name_decides q n) fs r (plainly P fs r c.first-position.ensures) ∙ ap (some_passes (has_qualified_name q n)) c.fields.ensures.value
+    c.is_some.ensures ∙ found_is P (has_qualified_name q n) (has_qualified_name_decides q n) fs r (plainly P fs r c.first_position.ensures) ∙ ap (some_passes (has_qualified_name q n)) c.fields.ensures.value

@@ -8,5 +8,5 @@ use Rattle.schemas.proofs.dfschema.DFSchema.has_column_with_unqualified_name.Goa
 pub returns : goal.returns
 returns c =
     let n = c.args.name.now in
-    c.is-some.ensures
-    ∙ found_is (Means None n) (has_name n) (λ f. Decides-like (has_name n f) (λ e. (e, tt)) (λ m. m.0) (has_name_decides n f)) (fields_of c.args.self.now) c.index-of-column-by-name.result c.index-of-column-by-name.ensures
+    c.is_some.ensures
+    ∙ found_is (Means None n) (has_name n) (λ f. Decides-like (has_name n f) (λ e. (e, tt)) (λ m. m.0) (has_name_decides n f)) (fields_of c.args.self.now) c.index_of_column_by_name.result c.index_of_column_by_name.ensures

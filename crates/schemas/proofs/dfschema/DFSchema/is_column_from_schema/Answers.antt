@@ -7,4 +7,4 @@ use Rattle.schemas.proofs.dfschema.DFSchema.is_column_from_schema.Goals as goal
 pub returns : goal.returns
 returns c =
     let col = c.args.col.now in
-    Decides-at _ _ c.is-some.ensures (search_tells (Means col.relation col.name) (fields_of c.args.self.now) c.maybe-index-of-column.result c.maybe-index-of-column.ensures)
+    Decides-at _ _ c.is_some.ensures (search_tells (Means col.relation col.name) (fields_of c.args.self.now) c.maybe_index_of_column.result c.maybe_index_of_column.ensures)

@@ -9,7 +9,7 @@ use Rattle.schemas.proofs.dfschema.DFSchema.qualified_fields_with_unqualified_na
 pub loop-field-preserved : goal.loop-field-preserved
 loop-field-preserved c =
     let n = c.args.name.now in
-    let xs = c.as-slice-field-items.result.now in
+    let xs = c.as_slice-field-items.result.now in
     let i = c.loop-field.field-index in
     let x = c.field-item.result in
     let inside = c.loop-field-test.true in
@@ -19,11 +19,11 @@ loop-field-preserved c =
     elim c.if-eq.branch [
       | then-eq w ↦
           let test = tested ∙ w.if-eq.true in
-          rw w.matches-is (kept_pushed (has_name n) [] xs i x inside here so_far test (w.push.ensures.pushed (kept_room (has_name n) xs i x 64 inside here so_far test c.as-slice-field-items.ensures.few)))
+          rw w.matches-is (kept_pushed (has_name n) [] xs i x inside here so_far test (w.push.ensures.pushed (kept_room (has_name n) xs i x 64 inside here so_far test c.as_slice-field-items.ensures.few)))
       | else-eq w ↦ rw w.matches-is (kept_skipped (has_name n) [] xs i x inside here so_far (tested ∙ w.if-eq.false))
     ]
 
 pub returns : goal.returns
 returns c =
     let n = c.args.name.now in
-    kept_all (has_name n) [] c.as-slice-field-items.result.now c.loop-field.field-index c.loop-field.invariant c.loop-field-test.false ∙ ap (filter (has_name n)) c.as-slice-field-items.ensures.value
+    kept_all (has_name n) [] c.as_slice-field-items.result.now c.loop-field.field-index c.loop-field.invariant c.loop-field-test.false ∙ ap (filter (has_name n)) c.as_slice-field-items.ensures.value
