@@ -1,24 +1,9 @@
--- Lists that are compared element by element, where the test at elements decides whether their views are equal.
-use Rattle.std.proofs.Common.{◌≡◌, ℕ, Bool, List, [], ◌∷◌, map, Decides, refl, ap, ◌∙◌, arith}
+-- Lists that are compared element by element, through a view of the elements.
+use Rattle.std.proofs.Common.{◌≡◌, Bool, ◌&&◌, List, [], ◌∷◌, map, refl, ap}
 use Rattle.std.specs.Cmp.Lexicographic.{pointwise}
-use Rattle.std.proofs.lemmas.Bool.{and_parts, and_from, false≢true}
 
-head_is : {Y : Type 0} (p q : Y) (ps qs : List Y) → p ∷ ps ≡ q ∷ qs → p ≡ q
-head_is p q ps qs e = cc
-
-tail_is : {Y : Type 0} (p q : Y) (ps qs : List Y) → p ∷ ps ≡ q ∷ qs → ps ≡ qs
-tail_is p q ps qs e = cc
-
-module _ {X Y : Type 0} (v : X → Y) (same : X → X → Bool) (each : (x y : X) → Decides (same x y) (v x ≡ v y)) where
-  pub pointwise_decides_views : (xs ys : List X) → Decides (pointwise same xs ys) (map v xs ≡ map v ys)
-  pointwise_decides_views [] [] = ((λ _. refl), λ _. refl)
-  pointwise_decides_views [] (y ∷ ys) = ((λ e. absurd (false≢true e)), λ e. absurd (let z : ◌≡◌ {A = ℕ} 0 1 = cc in omega arith))
-  pointwise_decides_views (x ∷ xs) [] = ((λ e. absurd (false≢true e)), λ e. absurd (let z : ◌≡◌ {A = ℕ} 0 1 = cc in omega arith))
-  pointwise_decides_views (x ∷ xs) (y ∷ ys) =
-      let first = each x y in
-      let rest = pointwise_decides_views xs ys in (
-        λ e.
-            let parts = and_parts (same x y) (pointwise same xs ys) e in
-            ap (λ h. h ∷ map v xs) (first.0 parts.0) ∙ ap (λ t. v y ∷ t) (rest.0 parts.1),
-        λ e. and_from _ _ (first.1 (head_is (v x) (v y) (map v xs) (map v ys) e)) (rest.1 (tail_is (v x) (v y) (map v xs) (map v ys) e)),
-      )
+pub pointwise_map : {X Y : Type 0} (same : Y → Y → Bool) (v : X → Y) (xs ys : List X) → pointwise (λ x y. same (v x) (v y)) xs ys ≡ pointwise same (map v xs) (map v ys)
+pointwise_map same v [] [] = refl
+pointwise_map same v [] (y ∷ ys) = refl
+pointwise_map same v (x ∷ xs) [] = refl
+pointwise_map same v (x ∷ xs) (y ∷ ys) = ap (λ b. same (v x) (v y) && b) (pointwise_map same v xs ys)

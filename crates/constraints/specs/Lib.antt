@@ -1,2 +1,4 @@
 pub mod Keys
+pub mod Same
+pub mod SameLaws
 pub mod View

@@ -3,8 +3,9 @@ ghost use Rattle.names.specs.Refusals.{Answers, AnswersOr, oversize_over};
 ghost use Rattle.columns.specs.Columns.{columns_of, oversize_together};
 ghost use Rattle.constraints.specs.Keys.{key_columns, projected_key, projected_keys};
 ghost use Rattle.constraints.specs.View.{key_of, keys_of};
-ghost use Rattle.std.specs.Cmp.Rules.{comparing};
-ghost use Rattle.std.proofs.Common.{rules};
+ghost use Rattle.constraints.specs.Same.{same_key, same_keys};
+ghost use Rattle.constraints.specs.SameLaws.{same_key_equiv, same_keys_equiv};
+ghost use Rattle.std.specs.Cmp.{on_equiv, partial_equiv_from_equiv};
 
 use bounded::list::Bounded;
 use columns::column_list::ColumnList;
@@ -47,11 +48,14 @@ impl Constraint {
 }
 
 impl PartialEq for Constraint {
-    ghost equals = { λ a b r. Decides r (key_of a ≡ key_of b) };
+    ghost eq = { λ a b. same_key (key_of a) (key_of b) };
 
-    ghost laws = { Prim.search (comparing, rules) };
+    ghost laws = { partial_equiv_from_equiv (on_equiv key_of same_key_equiv) };
 
-    fn eq(&self, other: &Constraint) -> bool {
+    fn eq(&self, other: &Constraint) -> bool
+        ensures tested { result ≡ same_key (key_of self.now) (key_of other.now) }
+        ensures decides { Decides result (key_of self.now ≡ key_of other.now) }
+    {
         match (self, other) {
             (Constraint::PrimaryKey(a), Constraint::PrimaryKey(b)) => *a == *b,
             (Constraint::Unique(a), Constraint::Unique(b)) => *a == *b,
@@ -115,11 +119,14 @@ impl Constraints {
 }
 
 impl PartialEq for Constraints {
-    ghost equals = { λ a b r. Decides r (keys_of a ≡ keys_of b) };
+    ghost eq = { λ a b. same_keys (keys_of a) (keys_of b) };
 
-    ghost laws = { Prim.search (comparing, rules) };
+    ghost laws = { partial_equiv_from_equiv (on_equiv keys_of same_keys_equiv) };
 
-    fn eq(&self, other: &Constraints) -> bool {
+    fn eq(&self, other: &Constraints) -> bool
+        ensures tested { result ≡ same_keys (keys_of self.now) (keys_of other.now) }
+        ensures decides { Decides result (keys_of self.now ≡ keys_of other.now) }
+    {
         self.inner == other.inner
     }
 }

@@ -14,7 +14,7 @@ module _ (all : List ℕ) (t : Table) where
   once_fixes (unique_key cs) once i j hi hj a = subst (λ (x : ℕ). Agree all (row_at t i) (row_at t x)) (once i j hi hj a) (agree_itself all (row_at t i))
 
   has : (k : Key) → Keeps (key_dependency all k) t → HasKey t k
-  has (primary_key cs) kept = (kept.once refl, kept.never-null refl)
+  has (primary_key cs) kept = (kept.once refl, kept.never_null refl)
   has (unique_key cs) kept = kept.once refl
 
   keeps : (k : Key) → HasKey t k → Keeps (key_dependency all k) t

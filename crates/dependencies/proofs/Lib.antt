@@ -2,3 +2,4 @@ mod Shown
 pub mod JoinLaws
 mod KeyLaws
 mod ProjectLaws
+mod Same

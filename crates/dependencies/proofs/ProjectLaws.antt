@@ -61,12 +61,12 @@ module _ (n : ℕ) (proj : List ℕ) (t out : Table) (is : ProjectionOf n proj t
     keeps_projected Single k = record {
       fixes = λ i j hi hj a. subst (λ (x : ℕ). Agree all (row_at out i) (row_at out x)) (k.once refl i j (in_t i hi) (in_t j hj) (agree_below i j (in_t i hi) (in_t j hj) s vs listed a)) (agree_itself all (row_at out i));
       once = λ e i j hi hj a. k.once e i j (in_t i hi) (in_t j hj) (agree_below i j (in_t i hi) (in_t j hj) s vs listed a);
-      never_null = λ e i hi. not_null_above i (in_t i hi) s vs (k.never-null e i (in_t i hi));
+      never_null = λ e i hi. not_null_above i (in_t i hi) s vs (k.never_null e i (in_t i hi));
     }
     keeps_projected Multi k = record {
       fixes = λ i j hi hj a. agree_above i j (in_t i hi) (in_t j hj) ts vt (k.fixes i j (in_t i hi) (in_t j hj) (agree_below i j (in_t i hi) (in_t j hj) s vs listed a));
       once = λ e i j hi hj a. k.once e i j (in_t i hi) (in_t j hj) (agree_below i j (in_t i hi) (in_t j hj) s vs listed a);
-      never_null = λ e i hi. not_null_above i (in_t i hi) s vs (k.never-null e i (in_t i hi));
+      never_null = λ e i hi. not_null_above i (in_t i hi) s vs (k.never_null e i (in_t i hi));
     }
 
 pub projected_true : (proj : List ℕ) (w : ℕ) (ds : List Dep) → TrueOfProjections proj ds (projected proj w ds)

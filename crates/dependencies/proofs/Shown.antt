@@ -69,7 +69,7 @@ module _ (g : ℕ → ℕ) where
     keeps_shown shown = record {
       fixes = λ i j hi hj a. agree_shown i j _ _ (shown i hi).1 (shown j hj).1 a;
       once = λ e. absurd (let z : ◌≡◌ {A = ℕ} 0 1 = cc in omega arith);
-      never_null = λ e i hi. let x = shown i hi in shows_never_null d.sources _ _ x.1.sources (k.never-null e x.0 x.1.within);
+      never_null = λ e i hi. let x = shown i hi in shows_never_null d.sources _ _ x.1.sources (k.never_null e x.0 x.1.within);
     }
 
     -- each row at most once, so that the mode stays
@@ -77,7 +77,7 @@ module _ (g : ℕ → ℕ) where
     keeps_part from distinct shown = record {
       fixes = λ i j hi hj a. agree_shown i j _ _ (shown i hi) (shown j hj) a;
       once = λ e i j hi hj a. distinct i j hi hj (k.once e (from i) (from j) (shown i hi).within (shown j hj).within (agree_back d.sources _ _ _ _ (shown i hi).sources (shown j hj).sources a));
-      never_null = λ e i hi. shows_never_null d.sources _ _ (shown i hi).sources (k.never-null e (from i) (shown i hi).within);
+      never_null = λ e i hi. shows_never_null d.sources _ _ (shown i hi).sources (k.never_null e (from i) (shown i hi).within);
     }
 
     -- some rows are null there: a dependency that is not nullable and has a source stays, and is nullable then
@@ -85,8 +85,8 @@ module _ (g : ℕ → ℕ) where
     keeps_padded strict some shown = record {
       fixes = λ i j hi hj a.
           ⊎_elim
-          (λ x. ⊎_elim (λ y. agree_shown i j _ _ x.1 y.1 a) (λ y. absurd (apart d.sources some _ _ _ x.1.sources y.sources (k.never-null strict x.0 x.1.within) a)) (shown j hj))
-          (λ x. ⊎_elim (λ y. absurd (apart d.sources some _ _ _ y.1.sources x.sources (k.never-null strict y.0 y.1.within) (flip (map g d.sources) _ _ a))) (λ y. agree_nulls d.targets _ _ x.targets y.targets) (shown j hj))
+          (λ x. ⊎_elim (λ y. agree_shown i j _ _ x.1 y.1 a) (λ y. absurd (apart d.sources some _ _ _ x.1.sources y.sources (k.never_null strict x.0 x.1.within) a)) (shown j hj))
+          (λ x. ⊎_elim (λ y. absurd (apart d.sources some _ _ _ y.1.sources x.sources (k.never_null strict y.0 y.1.within) (flip (map g d.sources) _ _ a))) (λ y. agree_nulls d.targets _ _ x.targets y.targets) (shown j hj))
           (shown i hi);
       once = λ e. absurd (let z : ◌≡◌ {A = ℕ} 0 1 = cc in omega arith);
       never_null = λ e. absurd (let z : ◌≡◌ {A = ℕ} 0 1 = cc in omega arith);

@@ -3,8 +3,9 @@ ghost use Rattle.names.specs.Refusals.{Answers, AnswersOr, oversize_over};
 ghost use Rattle.columns.specs.Columns.{oversize_together, full_at, columns_of};
 ghost use Rattle.dependencies.specs.Model.{mode_name, dependence, with_mode, offset_by, overrun, overrun_any, survives_nulls, padded};
 ghost use Rattle.dependencies.specs.View.{dep_of, deps_of};
-ghost use Rattle.std.specs.Cmp.Rules.{comparing};
-ghost use Rattle.std.proofs.Common.{rules};
+ghost use Rattle.dependencies.specs.Same.{same_dep, same_deps};
+ghost use Rattle.dependencies.specs.SameLaws.{same_dep_equiv, same_deps_equiv};
+ghost use Rattle.std.specs.Cmp.{on_equiv, partial_equiv_from_equiv};
 
 use bounded::list::Bounded;
 use columns::column_list::ColumnList;
@@ -120,11 +121,14 @@ impl FunctionalDependence {
 }
 
 impl PartialEq for FunctionalDependence {
-    ghost equals = { λ a b r. Decides r (dep_of a ≡ dep_of b) };
+    ghost eq = { λ a b. same_dep (dep_of a) (dep_of b) };
 
-    ghost laws = { Prim.search (comparing, rules) };
+    ghost laws = { partial_equiv_from_equiv (on_equiv dep_of same_dep_equiv) };
 
-    fn eq(&self, other: &FunctionalDependence) -> bool {
+    fn eq(&self, other: &FunctionalDependence) -> bool
+        ensures tested { result ≡ same_dep (dep_of self.now) (dep_of other.now) }
+        ensures decides { Decides result (dep_of self.now ≡ dep_of other.now) }
+    {
         self.source_indices == other.source_indices
             && self.target_indices == other.target_indices
             && self.nullable == other.nullable
@@ -234,12 +238,15 @@ impl FunctionalDependencies {
     }
 }
 
-impl PartialEq<FunctionalDependencies> for FunctionalDependencies {
-    ghost equals = { λ a b r. Decides r (deps_of a ≡ deps_of b) };
+impl PartialEq for FunctionalDependencies {
+    ghost eq = { λ a b. same_deps (deps_of a) (deps_of b) };
 
-    ghost laws = { Prim.search (comparing, rules) };
+    ghost laws = { partial_equiv_from_equiv (on_equiv deps_of same_deps_equiv) };
 
-    fn eq(&self, other: &FunctionalDependencies) -> bool {
+    fn eq(&self, other: &FunctionalDependencies) -> bool
+        ensures tested { result ≡ same_deps (deps_of self.now) (deps_of other.now) }
+        ensures decides { Decides result (deps_of self.now ≡ deps_of other.now) }
+    {
         self.deps == other.deps
     }
 }

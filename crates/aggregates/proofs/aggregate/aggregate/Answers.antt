@@ -26,7 +26,7 @@ returns c =
     let carried : deps_of c.carried_dependencies-output.result ≡ carried_deps texts ds names (range_with_len 0 (length outs)) =
     c.carried_dependencies-output.ensures ∙ ap (λ t. carried_deps t (map dep_of deps) names (columns_of c.numbers-all.result)) columns ∙ ap (λ d. carried_deps texts d names (columns_of c.numbers-all.result)) dependencies ∙ ap (carried_deps texts ds names) all in
     let few : length given ≤ length outs = omega (arith, ap length same, c.if-count-fields.false) in (
-      cond-false _ _ _ (le-ltb 64 _ c.if-count-gt-MAX-COLUMNS.false) ∙ cond-false _ _ _ (le-ltb (length outs) _ few),
+      cond-false _ _ _ (le-ltb 64 _ c.if-count-gt-MAX_COLUMNS.false) ∙ cond-false _ _ _ (le-ltb (length outs) _ few),
       c.or_key.ensures ∙ ap (or_key (length given) (group_key (length given) fields)) carried ∙ ap (λ l. or_key (length given) (group_key (length given) l) (carried_deps texts ds names (range_with_len 0 (length outs)))) same
           ∙ ap (λ n. or_key n (group_key n outs) (carried_deps texts ds names (range_with_len 0 (length outs)))) (sym (length-map given full_text_of)),
     )

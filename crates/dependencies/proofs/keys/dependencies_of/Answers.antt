@@ -21,12 +21,12 @@ loop-key-preserved c =
     let xs = c.as_slice-key-items.result.now in
     let i = c.loop-key.key-index in
     let x = c.key-item.result in
-    c.in-ok-push.ensures.1 ∙ ap (λ l. l ++ dep_of c.dependence_of.result ∷ []) c.loop-key.invariant ∙ ap (λ d. map f (take i xs) ++ d ∷ []) (c.dependence_of.ensures ∙ ap f c.key-item.is)
+    c.in_ok-push.ensures.1 ∙ ap (λ l. l ++ dep_of c.dependence_of.result ∷ []) c.loop-key.invariant ∙ ap (λ d. map f (take i xs) ++ d ∷ []) (c.dependence_of.ensures ∙ ap f c.key-item.is)
     ∙ sym (map_more f xs i x c.loop-key-test.true)
 
-pub returns-in-err-push : goal.returns-in-err-push
-returns-in-err-push c =
-    let p = err_from_is_err_and c.from-residual.result c.from-residual.ensures.1 in
+pub returns-in_err-push : goal.returns-in_err-push
+returns-in_err-push c =
+    let p = err_from_is_err_and c.from_residual.result c.from_residual.ensures.1 in
     let xs = c.as_slice-key-items.result.now in
     let i = c.loop-key.key-index in
     let keys = keys_of c.args.keys.now in
@@ -34,7 +34,7 @@ returns-in-err-push c =
     let pushed : length (deps_of c.loop-key.dependencies) ≡ i = ap length c.loop-key.invariant ∙ length-map (take i xs) _ ∙ length-take-le i xs (omega arith) in
     let over : not (ltb (length (deps_of c.loop-key.dependencies)) 32) ≡ true → ltb 32 (length keys) ≡ true =
     λ full. let least : 32 ≤ length (deps_of c.loop-key.dependencies) = ltb-false _ 32 (not-true _ full) in lt-ltb 32 (length keys) (omega arith) in
-    rw (p.1, p.2) (refused_too _ _ Oversize _ over c.in-err-push.ensures.0)
+    rw (p.1, p.2) (refused_too _ _ Oversize _ over c.in_err-push.ensures.0)
 
 pub returns : goal.returns
 returns c =

@@ -28,7 +28,7 @@ loop-sort_expr-init c =
 
 pub require-sort_expr-requires : goal.require-sort_expr-requires
 require-sort_expr-requires c =
-    record { few = c.as_slice-field_names.ensures.few; room = omega (arith, c.loop-sort_expr.invariant.1, c.loop-sort_expr-test.true, c.if-sort_exprs-gt-MAX-COLUMNS.false) }
+    record { few = c.as_slice-field_names.ensures.few; room = omega (arith, c.loop-sort_expr.invariant.1, c.loop-sort_expr-test.true, c.if-sort_exprs-gt-MAX_COLUMNS.false) }
 
 pub loop-sort_expr-preserved : goal.loop-sort_expr-preserved
 loop-sort_expr-preserved c =
@@ -53,6 +53,6 @@ returns c =
     let texts : map full_text_of c.as_slice-field_names.result.now ≡ texts_of c.args.schema.now = ap (map full_text_of) c.as_slice-field_names.ensures.value ∙ c.field_names-field_names.ensures in
     let deps : map dep_of c.as_slice-dependencies.result.now ≡ dependencies_of c.args.schema.now = c.as_slice-dependencies.ensures.value ∙ c.functional_dependencies.ensures in
     let done = marked_all c.loop-sort_expr.invariant.0 (omega (arith, c.loop-sort_expr-test.false, c.loop-sort_expr.auto.sort_exprs)) in (
-      cond-false _ _ _ (le-ltb 64 _ c.if-sort_exprs-gt-MAX-COLUMNS.false),
+      cond-false _ _ _ (le-ltb 64 _ c.if-sort_exprs-gt-MAX_COLUMNS.false),
       (c.loop-sort_expr.invariant.0.names, subst (λ (ts : List (List ℕ)). Reduces ts (dependencies_of c.args.schema.now) (sort_names es) (sort_marks out)) texts (subst (λ (ds : List Dep). Reduces (map full_text_of c.as_slice-field_names.result.now) ds (sort_names es) (sort_marks out)) deps done)),
     )

@@ -12,8 +12,8 @@ use Rattle.constraints.proofs.constraints.Constraints.project.Goals.{then-all_li
 pub loop-key-init : goal.loop-key-init
 loop-key-init c = rw c.as_slice-key-items.ensures.value (sift_none (list_of c.args.self.now.inner))
 
-pub overflow-add-count : goal.overflow-add-count
-overflow-add-count c = record { fits = omega (arith, c.loop-key.invariant.behind, c.as_slice-key-items.ensures.few) }
+pub overflow_add-count : goal.overflow_add-count
+overflow_add-count c = record { fits = omega (arith, c.loop-key.invariant.behind, c.as_slice-key-items.ensures.few) }
 
 pub loop-key-preserved : goal.loop-key-preserved
 loop-key-preserved c =

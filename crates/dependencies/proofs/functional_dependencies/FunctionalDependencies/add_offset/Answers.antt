@@ -15,19 +15,19 @@ loop-i-init c = rw c.as_slice-d-items.ensures.value (tried_none (list_of c.args.
 
 pub loop-i-preserved : goal.loop-i-preserved
 loop-i-preserved c =
-    let said = c.in-ok-add_offset.ensures in
+    let said = c.in_ok-add_offset.ensures in
     let good = not-false (fits_dep c.args.offset (dep_of c.d-item.result)) (not_refused _ _ said.0) in
     tried_more c.d-item.result _ c.loop-i.invariant c.loop-i-test.true c.d-item.is good said.1 c.set.ensures.stored
 
-pub returns-in-err-add_offset : goal.returns-in-err-add_offset
-returns-in-err-add_offset c =
-    let p = err_from_is_err_and c.from-residual.result c.from-residual.ensures.1 in
+pub returns-in_err-add_offset : goal.returns-in_err-add_offset
+returns-in_err-add_offset c =
+    let p = err_from_is_err_and c.from_residual.result c.from_residual.ensures.1 in
     let k = c.args.offset in
     let d = c.d-item.result in
     let xs = c.as_slice-d-items.result.now in
     let any : not (fits_dep k (dep_of d)) ≡ true → not (list_all (fits_dep k) (deps_of c.args.self.now)) ≡ true =
     λ bad. not_from_false _ (ap (λ l. list_all (fits_dep k) (map dep_of l)) (sym c.as_slice-d-items.ensures.value) ∙ tried_fails dep_of (fits_dep k) xs c.loop-i.i d c.loop-i-test.true c.d-item.is (not-true _ bad)) in
-    rw (p.1, p.2) (refused_too _ _ Overrun _ any c.in-err-add_offset.ensures.0, refl)
+    rw (p.1, p.2) (refused_too _ _ Overrun _ any c.in_err-add_offset.ensures.0, refl)
 
 pub returns : goal.returns
 returns c =

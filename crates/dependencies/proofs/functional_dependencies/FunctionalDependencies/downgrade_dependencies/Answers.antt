@@ -9,8 +9,8 @@ use Rattle.dependencies.proofs.functional_dependencies.FunctionalDependencies.do
 pub loop-d-init : goal.loop-d-init
 loop-d-init c = rw c.as_slice-d-items.ensures.value (sift_none (list_of c.args.self.now.deps))
 
-pub overflow-add-count : goal.overflow-add-count
-overflow-add-count c = record { fits = omega (arith, c.loop-d.invariant.behind, c.as_slice-d-items.ensures.few) }
+pub overflow_add-count : goal.overflow_add-count
+overflow_add-count c = record { fits = omega (arith, c.loop-d.invariant.behind, c.as_slice-d-items.ensures.few) }
 
 pub loop-d-preserved : goal.loop-d-preserved
 loop-d-preserved c =

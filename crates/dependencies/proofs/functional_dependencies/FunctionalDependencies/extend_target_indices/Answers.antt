@@ -15,8 +15,8 @@ loop-i-preserved c =
 
 pub returns : goal.returns
 returns c =
-    let said = c.in-ok-all.ensures in (
+    let said = c.in_ok-all.ensures in (
       said.0,
-      over_all c.loop-i.invariant c.loop-i-test.false ∙ ap (λ l. map (over_targets (columns_of c.in-ok-all.all)) (map dep_of l)) c.as_slice-d-items.ensures.value
+      over_all c.loop-i.invariant c.loop-i-test.false ∙ ap (λ l. map (over_targets (columns_of c.in_ok-all.all)) (map dep_of l)) c.as_slice-d-items.ensures.value
           ∙ ap (λ l. map (over_targets l) (deps_of c.args.self.now)) said.1,
     )

@@ -10,8 +10,8 @@ use Rattle.dependencies.proofs.functional_dependencies.FunctionalDependencies.pr
 pub loop-d-init : goal.loop-d-init
 loop-d-init c = rw c.as_slice-d-items.ensures.value (sift_none (list_of c.args.self.now.deps))
 
-pub overflow-add-count : goal.overflow-add-count
-overflow-add-count c = record { fits = omega (arith, c.loop-d.invariant.behind, c.as_slice-d-items.ensures.few) }
+pub overflow_add-count : goal.overflow_add-count
+overflow_add-count c = record { fits = omega (arith, c.loop-d.invariant.behind, c.as_slice-d-items.ensures.few) }
 
 pub loop-d-preserved : goal.loop-d-preserved
 loop-d-preserved c =
@@ -24,10 +24,10 @@ loop-d-preserved c =
 
 pub returns : goal.returns
 returns c =
-    let said = c.in-ok-all.ensures in
+    let said = c.in_ok-all.ensures in
     let proj = columns_of c.args.proj_indices.now in
     let stay = filter (sources_listed proj) in (
       said.0,
-      ap (map dep_of) c.truncate.ensures ∙ sift_all c.loop-d.invariant c.loop-d-test.false ∙ ap (λ l. map (projected_dep proj (columns_of c.in-ok-all.all)) (stay (map dep_of l))) c.as_slice-d-items.ensures.value
+      ap (map dep_of) c.truncate.ensures ∙ sift_all c.loop-d.invariant c.loop-d-test.false ∙ ap (λ l. map (projected_dep proj (columns_of c.in_ok-all.all)) (stay (map dep_of l))) c.as_slice-d-items.ensures.value
           ∙ ap (λ l. map (projected_dep proj l) (stay (deps_of c.args.self.now))) said.1,
     )

@@ -5,14 +5,14 @@ use Rattle.schemas.specs.Schemas.{column_in}
 use Rattle.schemas.specs.declared.dfschema.Field.{Field}
 use Rattle.schemas.proofs.dfschema.DFSchema.new.Goals as goal
 
-pub returns-in-err-check_names : goal.returns-in-err-check_names
-returns-in-err-check_names c =
-    let p = err_from_is_err_and c.from-residual-in-err-check_names.result c.from-residual-in-err-check_names.ensures.1 in
-    let said = c.in-ok-schema.ensures in
-    let e = c.in-err-check_names.field-0.0 in
-    rw (p.1, p.2) (inr (said.0, subst (λ (fs : List Field). NamesAnswer (map column_in fs) (Some e)) said.1.0 c.in-err-check_names.ensures))
+pub returns-in_err-check_names : goal.returns-in_err-check_names
+returns-in_err-check_names c =
+    let p = err_from_is_err_and c.from_residual-in_err-check_names.result c.from_residual-in_err-check_names.ensures.1 in
+    let said = c.in_ok-schema.ensures in
+    let e = c.in_err-check_names.field-0.0 in
+    rw (p.1, p.2) (inr (said.0, subst (λ (fs : List Field). NamesAnswer (map column_in fs) (Some e)) said.1.0 c.in_err-check_names.ensures))
 
 pub returns : goal.returns
 returns c =
-    let said = c.in-ok-schema.ensures in
-    (said.0, subst (λ (fs : List Field). NamesAnswer (map column_in fs) None) said.1.0 c.in-ok-check_names.ensures, said.1)
+    let said = c.in_ok-schema.ensures in
+    (said.0, subst (λ (fs : List Field). NamesAnswer (map column_in fs) None) said.1.0 c.in_ok-check_names.ensures, said.1)
