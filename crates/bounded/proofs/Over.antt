@@ -1,6 +1,6 @@
 -- A loop that changes each element of a list in place, seen through a view v of its elements:
 -- after i turns the view of ys is that of xs with g applied to its first i elements.
-use Rattle.std.proofs.Common.{◌≡◌, ℕ, ◌+◌, ◌<◌, ◌≤◌, Bool, true, false, List, [], ◌∷◌, ◌++◌, map, length, get_or, take, drop, set, sym, refl, ap, ◌∙◌, arith}
+use Rattle.std.proofs.Common.{◌≡◌, ℕ, ◌+◌, ◌<◌, ◌≤◌, List, ◌++◌, map, length, get_or, take, drop, set, sym, refl, ap, ◌∙◌, arith}
 use Rattle.std.proofs.lemmas.List.{get_or-map, length-set, length-map, length-take-le, map-set, take_all, drop_all, append-nil, drop_more, get_or_at}
 use Rattle.std.proofs.lemmas.List.Edits.{map_over_more}
 

@@ -1,7 +1,7 @@
 -- A loop that keeps the elements that pass p and changes each by g, and stores them from the front on, seen through a view v:
 -- of the first i of xs, what is kept stands in the first k places of ys.
 use Rattle.std.proofs.Common.{◌≡◌, ℕ, ◌+◌, ◌<◌, ◌≤◌, Bool, true, false, cond, List, [], ◌∷◌, ◌++◌, map, length, get_or, take, set, filter, sym, refl, ap, ◌∙◌, arith}
-use Rattle.std.proofs.lemmas.List.{get_or-map, length-set, length-map, map-append, take_all, take-map, take_more_set, append-nil}
+use Rattle.std.proofs.lemmas.List.{get_or-map, length-set, length-map, map-append, take_all, take_more_set, append-nil}
 use Rattle.std.proofs.lemmas.List.Elements.{filter_more}
 
 pub record Sift {X Y : Type 0} (v : X → Y) (p : Y → Bool) (g : Y → Y) (xs ys : List X) (k i : ℕ) : Type 0 where

@@ -1,5 +1,5 @@
 -- The test behind `==` of keys decides whether they are equal.
-use Rattle.std.proofs.Common.{◌≡◌, List, Decides, refl, ap}
+use Rattle.std.proofs.Common.{◌≡◌, List, Decides, ap}
 use Rattle.std.specs.Cmp.Lexicographic.{pointwise_decides, bytes_decides}
 use Rattle.std.proofs.lemmas.Bool.{false≢true}
 use Rattle.constraints.specs.Keys.{Key, primary_key, unique_key, key_columns}

@@ -1,5 +1,5 @@
 -- The dependencies of a join are true of every table of joined rows.
-use Rattle.std.proofs.Common.{◌≡◌, ℕ, zero, suc, ◌+◌, ◌<◌, Bool, true, false, not, eqb, ◌⊎◌, List, [], ◌∷◌, ◌++◌, map, length, get_or, filter, sym, refl, ap, ◌∙◌, subst, inl, inr, ⊎_elim, map-id, arith}
+use Rattle.std.proofs.Common.{◌≡◌, ℕ, zero, suc, ◌+◌, ◌<◌, Bool, true, false, not, eqb, ◌⊎◌, List, [], ◌∷◌, ◌++◌, map, length, filter, refl, ap, ◌∙◌, subst, inl, inr, ⊎_elim, map-id, arith}
 use Rattle.std.specs.List.{AllByRecursion}
 use Rattle.std.proofs.lemmas.List.{get_or_append_left, get_or-append-add}
 use Rattle.std.proofs.ByRecursion.{All-get_or, All-weaker, All-map, All-append, all_kept_by, kept_by_passes}
@@ -7,7 +7,7 @@ use Rattle.std.proofs.lemmas.Bool.{and_parts, not-true, eqb-false}
 use Rattle.join_type.specs.declared.JoinType.{JoinType}
 use Rattle.join_type.specs.declared.JoinType.TheVariants.{Inner, Left, Right, Full, LeftSemi, RightSemi, LeftAnti, RightAnti, LeftMark, RightMark}
 use Rattle.dependencies.specs.Joins.{joined}
-use Rattle.dependencies.specs.JoinedTables.{Beside, Nulls, LeftAlone, RightAlone, PartOf, JoinOf, TrueOfJoins}
+use Rattle.dependencies.specs.JoinedTables.{Beside, Nulls, LeftAlone, RightAlone, PartOf, TrueOfJoins}
 use Rattle.dependencies.specs.Model.{Dep, dependence, with_mode, offset_by, nullable_dep, survives_nulls, padded}
 use Rattle.dependencies.specs.Tables.{Row, Table, null, cell_at, row_at, Keeps, KeepsAll, Within, Valid, Wide}
 use Rattle.dependencies.specs.declared.functional_dependencies.Dependency.{Dependency}

@@ -1,5 +1,5 @@
 -- The dependencies of keys are kept exactly by the tables that have the keys.
-use Rattle.std.proofs.Common.{◌≡◌, ℕ, ◌<◌, List, [], ◌∷◌, map, refl, subst, arith}
+use Rattle.std.proofs.Common.{◌≡◌, ℕ, List, [], ◌∷◌, map, refl, subst, arith}
 use Rattle.std.specs.List.{AllByRecursion}
 use Rattle.constraints.specs.Keys.{Key, primary_key, unique_key}
 use Rattle.dependencies.specs.Keys.{key_dependency}

@@ -1,5 +1,5 @@
 -- The dependencies of a projection are true of every projection of a table.
-use Rattle.std.proofs.Common.{◌≡◌, ℕ, suc, ◌<◌, Bool, true, false, List, [], ◌∷◌, ◌++◌, map, length, get_or, is_some, IfSome, Some, None, filter, Option, sym, refl, ap, ◌∙◌, subst, arith}
+use Rattle.std.proofs.Common.{◌≡◌, ℕ, ◌<◌, Bool, true, List, [], ◌∷◌, ◌++◌, length, get_or, is_some, IfSome, Some, None, filter, Option, sym, refl, ap, ◌∙◌, subst, arith}
 use Rattle.std.specs.List.{range_with_len, AllByRecursion, list_all}
 use Rattle.std.specs.Option.{option_to_list as optional}
 use Rattle.std.proofs.ByRecursion.{All-map, all_kept_by, kept_by_passes}
@@ -9,7 +9,7 @@ use Rattle.columns.proofs.Places.{place_holds}
 use Rattle.dependencies.specs.Model.{Dep, dependence, targets_for}
 use Rattle.dependencies.specs.Projections.{projected_dep, projected, sources_listed}
 use Rattle.dependencies.specs.ProjectedTables.{ProjectionOf, TrueOfProjections}
-use Rattle.dependencies.specs.Tables.{Row, Table, null, cell_at, row_at, Agree, Keeps, KeepsAll, Within, Valid}
+use Rattle.dependencies.specs.Tables.{Table, null, cell_at, row_at, Agree, Keeps, Within}
 use Rattle.dependencies.specs.declared.functional_dependencies.Dependency.{Dependency}
 use Rattle.dependencies.specs.declared.functional_dependencies.Dependency.TheVariants.{Single, Multi}
 use Rattle.dependencies.proofs.Shown.{agree_itself, all_both}

@@ -1,10 +1,10 @@
 -- Tables whose rows show the rows of another: what they keep of its dependencies.
-use Rattle.std.proofs.Common.{◌≡◌, ℕ, ◌<◌, Bool, true, false, ◌⊎◌, List, [], ◌∷◌, map, length, sym, refl, ap, ◌∙◌, subst, inl, inr, ⊎_elim, arith}
+use Rattle.std.proofs.Common.{◌≡◌, ℕ, ◌<◌, Bool, true, false, ◌⊎◌, List, [], ◌∷◌, map, length, sym, refl, ◌∙◌, ⊎_elim, arith}
 use Rattle.std.specs.List.{AllByRecursion}
 use Rattle.dependencies.specs.Model.{Dep, dependence}
-use Rattle.dependencies.specs.Tables.{Row, Table, null, cell_at, row_at, Agree, Once, Keeps}
+use Rattle.dependencies.specs.Tables.{Row, Table, null, cell_at, row_at, Agree, Keeps}
 use Rattle.dependencies.specs.declared.functional_dependencies.Dependency.{Dependency}
-use Rattle.dependencies.specs.declared.functional_dependencies.Dependency.TheVariants.{Single, Multi}
+use Rattle.dependencies.specs.declared.functional_dependencies.Dependency.TheVariants.{Multi}
 
 pub all_both : {X : Type 0} (P Q R : X → Type 0) → ((x : X) → P x → Q x → R x) → (xs : List X) → AllByRecursion P xs → AllByRecursion Q xs → AllByRecursion R xs
 all_both P Q R h [] p q = tt

@@ -1,5 +1,5 @@
 -- The dependencies of a join.
-use Rattle.std.specs.Prelude.{ℕ, ◌+◌, Bool, not, List, [], ◌++◌, map, length, Some, None, Option, nat_lt}
+use Rattle.std.specs.Prelude.{ℕ, ◌+◌, List, [], ◌++◌, map, length, None, Option, nat_lt}
 use Rattle.names.specs.declared.error.Refusal.{Refusal}
 use Rattle.names.specs.declared.error.Refusal.TheVariants.{Oversize}
 use Rattle.names.specs.Refusals.{refused_if}

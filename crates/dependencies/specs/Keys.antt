@@ -1,5 +1,5 @@
 -- The dependencies that keys stand for.
-use Rattle.std.specs.Prelude.{ℕ, Bool, true, false, List, [], ◌∷◌, length, Some, None, Option, nat_lt}
+use Rattle.std.specs.Prelude.{ℕ, true, false, List, length, None, Option, nat_lt}
 use Rattle.names.specs.declared.error.Refusal.{Refusal}
 use Rattle.names.specs.declared.error.Refusal.TheVariants.{Oversize}
 use Rattle.names.specs.Refusals.{refused_if}

@@ -1,5 +1,4 @@
 -- The tests behind `==` of dependencies are equivalences.
-use Rattle.std.specs.Prelude.{Bool}
 use Rattle.std.specs.Cmp.{IsEquivalence, and_equiv, on_equiv, bool_eq_equiv}
 use Rattle.std.specs.Cmp.Lexicographic.{lists_equiv, nat_list_eq_equiv}
 use Rattle.dependencies.specs.Model.{Dep}

@@ -1,5 +1,5 @@
 -- What the records of the code stand for.
-use Rattle.std.specs.Prelude.{ℕ, List, map}
+use Rattle.std.specs.Prelude.{List, map}
 use Rattle.bounded.specs.View.{list_of}
 use Rattle.bounded.specs.declared.list.Bounded.{Bounded}
 use Rattle.dependencies.specs.Model.{Dep, dependence}

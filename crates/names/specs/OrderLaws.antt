@@ -1,11 +1,10 @@
 -- The order of table references is total, and ties exactly where references are equal.
-use Rattle.std.specs.Prelude.{◌≡◌, ℕ, Bool, true, false, ◌&&◌, List, [], ◌∷◌, Some, Option, nat_eq, refl, ◌==◌}
-use Rattle.std.proofs.Common.{sym, ◌∙◌, ap}
+use Rattle.std.specs.Prelude.{◌≡◌, Bool, true, false, ◌&&◌, Some, refl, ◌==◌}
+use Rattle.std.proofs.Common.{◌∙◌, ap}
 use Rattle.std.specs.Cmp.{IsTotalOrder, IsPartialOrder, on_total, then_total, nat_cmp_total, unsigned_ties, both_tied, po}
 use Rattle.std.specs.Cmp.Lexicographic.{lists_total, lists_ties, nat_list_cmp_total, texts_ties}
 use Rattle.std.specs.Ordering.{nat_cmp, eq_by_cmp}
 use Rattle.std.specs.Str.{bytes_eq}
-use Rattle.std.specs.declared.cmp.Ordering.{Ordering}
 use Rattle.names.specs.declared.table_reference.TableReference.{TableReference}
 use Rattle.names.specs.declared.table_reference.TableReference.TheVariants.{Bare, Partial, Full}
 use Rattle.names.specs.Names.{text_of}

@@ -1,6 +1,6 @@
 -- The tests behind `==` are equivalences, and agree with the order of references.
-use Rattle.std.specs.Prelude.{◌≡◌, ℕ, Bool, true, false, ◌&&◌, List, [], ◌∷◌, Option, nat_eq}
-use Rattle.std.specs.Cmp.{IsEquivalence, IsTotalOrder, and_equiv, on_equiv, nat_eq_equiv}
+use Rattle.std.specs.Prelude.{ℕ, List, Option}
+use Rattle.std.specs.Cmp.{IsEquivalence, and_equiv, on_equiv, nat_eq_equiv}
 use Rattle.std.specs.Cmp.Lexicographic.{lists_equiv, options_equiv, nat_list_eq_equiv}
 use Rattle.names.specs.Named.{Named}
 use Rattle.names.specs.Same.{same_texts, same_parts_and_text, way_of, texts_of, same_named, same_schema_error, same_refusal}

@@ -1,6 +1,6 @@
 use Rattle.std.proofs.Common.{◌≡◌, ℕ, List, [], ◌∷◌, ◌++◌, length, sym, ap, ◌∙◌, arith}
 use Rattle.names.specs.Columns.{pointed}
-use Rattle.names.specs.Names.{text_of, full_text_of}
+use Rattle.names.specs.Names.{text_of}
 use Rattle.names.specs.References.{parts_of}
 use Rattle.names.specs.declared.table_reference.TableReference.{TableReference}
 use Rattle.names.proofs.Pointed.{then_more}

@@ -1,4 +1,4 @@
-use Rattle.std.proofs.Common.{◌≡◌, eqb, length, ap, ◌∙◌}
+use Rattle.std.proofs.Common.{eqb, length, ap, ◌∙◌}
 use Rattle.columns.specs.Columns.{columns_of, places}
 use Rattle.columns.proofs.Places.{all_listed_is}
 use Rattle.columns.proofs.column_list.ColumnList.all_listed_in.Goals as goal

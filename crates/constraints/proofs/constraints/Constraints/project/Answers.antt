@@ -1,10 +1,10 @@
-use Rattle.std.proofs.Common.{◌≡◌, [], map, length, take, sym, ap, ◌∙◌, arith}
+use Rattle.std.proofs.Common.{◌≡◌, map, length, take, sym, ap, ◌∙◌, arith}
 use Rattle.std.specs.List.{list_all}
 use Rattle.std.proofs.lemmas.List.{length-map, length-take-le}
 use Rattle.bounded.specs.View.{list_of}
 use Rattle.bounded.proofs.Sift.{sift_none, sift_skip, sift_keep, sift_all}
 use Rattle.columns.specs.Columns.{columns_of, is_listed}
-use Rattle.constraints.specs.View.{key_of, keys_of}
+use Rattle.constraints.specs.View.{key_of}
 use Rattle.constraints.specs.Keys.{projected_keys}
 use Rattle.constraints.proofs.constraints.Constraints.project.Goals as goal
 use Rattle.constraints.proofs.constraints.Constraints.project.Goals.{then-all_listed_in, else-all_listed_in}

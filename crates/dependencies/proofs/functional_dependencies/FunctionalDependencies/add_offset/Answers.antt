@@ -1,11 +1,11 @@
-use Rattle.std.proofs.Common.{◌≡◌, true, false, not, map, None, sym, refl, ap, ◌∙◌}
+use Rattle.std.proofs.Common.{◌≡◌, true, not, map, sym, refl, ap, ◌∙◌}
 use Rattle.std.specs.List.{list_all}
 use Rattle.std.proofs.lemmas.Result.{err_from_is_err_and}
 use Rattle.std.proofs.lemmas.Bool.{not-true, not-false, not_from_true, not_from_false, cond-false}
 use Rattle.names.specs.declared.error.Refusal.TheVariants.{Overrun}
 use Rattle.bounded.specs.View.{list_of}
 use Rattle.bounded.proofs.Tried.{tried_none, tried_more, tried_passes, tried_all, tried_fails}
-use Rattle.dependencies.specs.Model.{fits_dep, offset_by, overrun_any}
+use Rattle.dependencies.specs.Model.{fits_dep, offset_by}
 use Rattle.dependencies.specs.View.{dep_of, deps_of}
 use Rattle.names.proofs.Refused.{refused_too, not_refused}
 use Rattle.dependencies.proofs.functional_dependencies.FunctionalDependencies.add_offset.Goals as goal

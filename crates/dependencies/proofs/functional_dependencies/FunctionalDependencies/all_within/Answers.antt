@@ -1,4 +1,4 @@
-use Rattle.std.proofs.Common.{◌≡◌, Bool, true, false, List, Decides, sym, refl, ◌∙◌, subst}
+use Rattle.std.proofs.Common.{true, false, List, Decides, sym, refl, subst}
 use Rattle.std.proofs.ByRecursion.{All-more}
 use Rattle.std.proofs.lemmas.Bool.{false≢true}
 use Rattle.bounded.proofs.Decided.{one_lacks, all_have, decided_views}

@@ -1,4 +1,4 @@
-use Rattle.std.proofs.Common.{◌≡◌, map, sym, refl, ap, ◌∙◌, arith}
+use Rattle.std.proofs.Common.{map, sym, refl, ap, ◌∙◌, arith}
 use Rattle.bounded.specs.View.{list_of}
 use Rattle.bounded.proofs.Sift.{sift_none, sift_skip, sift_keep, sift_all}
 use Rattle.dependencies.specs.Model.{padded}

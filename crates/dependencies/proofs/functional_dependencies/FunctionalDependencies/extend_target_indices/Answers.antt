@@ -1,4 +1,4 @@
-use Rattle.std.proofs.Common.{◌≡◌, map, ap, ◌∙◌}
+use Rattle.std.proofs.Common.{map, ap, ◌∙◌}
 use Rattle.bounded.specs.View.{list_of}
 use Rattle.bounded.proofs.Over.{over_none, over_more, over_all}
 use Rattle.columns.specs.Columns.{columns_of}

@@ -1,4 +1,4 @@
-use Rattle.std.proofs.Common.{map, sym, refl, ap, ◌∙◌, arith}
+use Rattle.std.proofs.Common.{map, refl, ap, ◌∙◌}
 use Rattle.bounded.specs.View.{list_of}
 use Rattle.bounded.proofs.Over.{over_none, over_more, over_all}
 use Rattle.dependencies.specs.Model.{with_mode}
