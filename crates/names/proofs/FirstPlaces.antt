@@ -28,10 +28,11 @@ module _ {X : Type 0} (p : X → Bool) (P : X → Type 0) (decides : (x : X) →
   first_where_is (x ∷ xs) (Some (suc i)) h =
       step x xs (Some i) (h.2 0 x (omega arith) (omega arith)) (first_where_is xs (Some i) (le_of_suc-le-suc h.0, (λ d. h.1 d), later x xs i h.2))
 
-  -- what a search by decisions tells
-  pub searched : (xs : List X) (r : Option ℕ) → MatchOption r (AllWithin (λ y. Decides false (P y)) xs 0 (length xs)) (λ i. (i < length xs) × HoldsAt (λ y. Decides true (P y)) xs i × AllWithin (λ y. Decides false (P y)) xs 0 i) → first_where p xs ≡ r
-  searched xs None h = first_where_is xs None (λ k d low high e. false≢true ((h k d low high).1 e))
-  searched xs (Some i) h = first_where_is xs (Some i) (h.0, (λ d. (h.1 d).0 refl), λ k d low high e. false≢true ((h.2 k d low high).1 e))
+-- the fact that a test of one type tells
+module _ {X : Type 0} (same : X → X → Bool) (y : X) (P : X → Type 0) (decides : (x : X) → Decides (same x y) (P x)) where
+  pub told : (xs : List X) (r : Option ℕ) → MatchOption r (AllWithin (λ x. ¬ (same x y ≡ true)) xs 0 (length xs)) (λ i. (i < length xs) × HoldsAt (λ x. same x y ≡ true) xs i × AllWithin (λ x. ¬ (same x y ≡ true)) xs 0 i) → MatchOption r (AllWithin (λ x. P x → ⊥) xs 0 (length xs)) (λ i. (i < length xs) × HoldsAt P xs i × AllWithin (λ x. P x → ⊥) xs 0 i)
+  told xs None h = λ k d low high q. h k d low high ((decides _).1 q)
+  told xs (Some i) h = (h.0, (λ d. (decides _).0 (h.1 d)), λ k d low high q. h.2 k d low high ((decides _).1 q))
 
 -- the first place is one in the list, and what stands there passes
 pub place_passes : {X : Type 0} (p : X → Bool) (d : X) (xs : List X) → IfSome (first_where p xs) (λ i. (i < length xs) × (p (get_or xs i d) ≡ true))
