@@ -1,4 +1,4 @@
 mod Pointed
 pub mod Refused
 pub mod FirstPlaces
-mod Same
+pub mod Same

@@ -7,7 +7,8 @@ use Rattle.std.specs.Option.{option_eq}
 use Rattle.std.proofs.lemmas.Bool.{false≢true}
 use Rattle.std.proofs.lemmas.Bool.Decides.{Decides-and, Decides-like}
 use Rattle.names.specs.Named.{Named, by_parts, by_text}
-use Rattle.names.specs.Same.{texts_of, same_texts, same_named, same_refusal}
+use Rattle.std.specs.Str.{bytes_eq}
+use Rattle.names.specs.Same.{texts_of, same_texts, same_parts_and_text, same_named, same_refusal}
 
 head_is : {Y : Type 0} (p q : Y) (ps qs : List Y) → p ∷ ps ≡ q ∷ qs → p ≡ q
 head_is p q ps qs e = cc
@@ -17,6 +18,10 @@ tail_is p q ps qs e = cc
 
 texts_decide : (ps qs : List (List ℕ)) → Decides (same_texts ps qs) (ps ≡ qs)
 texts_decide = pointwise_decides bytes_decides
+
+pub parts_and_text_decide : (p q : List (List ℕ) × List ℕ) → Decides (same_parts_and_text p q) (p ≡ q)
+parts_and_text_decide p q =
+    Decides-like (same_parts_and_text p q) (λ e i. (e.0 i, e.1 i)) (λ e. ((λ i. (e i).0), λ i. (e i).1)) (Decides-and (same_texts p.0 q.0) (bytes_eq p.1 q.1) (texts_decide p.0 q.0) (bytes_decides p.1 q.1))
 
 pub same_named_decides : (a b : Named) → Decides (same_named a b) (a ≡ b)
 same_named_decides (by_parts p) (by_parts q) =

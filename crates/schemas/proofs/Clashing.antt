@@ -1,6 +1,6 @@
 -- The names of two lists that pass alone pass together where they do not clash.
 use Rattle.std.proofs.Common.{◌≡◌, ℕ, zero, suc, ◌+◌, ◌-◌, ◌<◌, ◌≤◌, ltb, ◌⊎◌, List, [], ◌∷◌, ◌++◌, map, length, get_or, Some, None, Ok, Err, Result, sym, refl, ap, ◌∙◌, subst, inl, inr, ⊎_elim, arith}
-use Rattle.std.specs.List.{ContainsAt as Has}
+use Rattle.std.specs.List.{ContainsAt}
 use Rattle.std.proofs.ByRecursion.{has_append_left, has_append_right}
 use Rattle.std.proofs.lemmas.List.{get_or_append_left, get_or-append-add, get_or-append_right, length-append, map-append}
 use Rattle.std.proofs.lemmas.Bool.{cases_lt, ltb-true, ltb-false}
@@ -22,7 +22,7 @@ at (c ∷ cs) zero h = (c, λ d. refl)
 at (c ∷ cs) (suc k) h = at cs k (omega arith)
 
 -- a column that is listed qualified, and one that is listed with its name alone
-with_and_without : (cs : List Column) (a b : Column) → NoneAmbiguous cs → Has cs a → Has cs b → WithAndWithout a b → ⊥
+with_and_without : (cs : List Column) (a b : Column) → NoneAmbiguous cs → ContainsAt cs a → ContainsAt cs b → WithAndWithout a b → ⊥
 with_and_without cs a b none ha hb h =
     none ha.0 a ha.1 (subst (Ambiguous cs) (sym (ha.2 a)) (h.0, (hb.0, hb.1, λ d. ap column_of (hb.2 d) ∙ h.1)))
 
@@ -34,13 +34,13 @@ module _ (ls rs : List Column) where
   side : (k : ℕ) → k < length all → (k < length ls) ⊎ ((k - length ls < length rs) × (length ls ≤ k))
   side k h = ⊎_elim inl (λ low. inr (omega (arith, length-append ls rs), low)) (cases_lt k (length ls))
 
-  in_left : (k : ℕ) (c : Column) → k < length ls → ((d : Column) → get_or all k d ≡ c) → Has ls c
+  in_left : (k : ℕ) (c : Column) → k < length ls → ((d : Column) → get_or all k d ≡ c) → ContainsAt ls c
   in_left k c h is = (k, h, λ d. sym (get_or_append_left ls rs d k h) ∙ is d)
 
-  in_right : (k : ℕ) (c : Column) → length ls ≤ k → k - length ls < length rs → ((d : Column) → get_or all k d ≡ c) → Has rs c
+  in_right : (k : ℕ) (c : Column) → length ls ≤ k → k - length ls < length rs → ((d : Column) → get_or all k d ≡ c) → ContainsAt rs c
   in_right k c low h is = (k - length ls, h, λ d. sym (get_or-append_right ls rs (length ls) k d refl low) ∙ is d)
 
-  split : (c : Column) → Has all c → Has ls c ⊎ Has rs c
+  split : (c : Column) → ContainsAt all c → ContainsAt ls c ⊎ ContainsAt rs c
   split c (k, h, is) = ⊎_elim (λ l. inl (in_left k c l is)) (λ r. inr (in_right k c r.1 r.0 is)) (side k h)
 
   pub no_clash : NamesAnswer all None → Clash ls rs → ⊥
@@ -63,7 +63,7 @@ module _ (ls rs : List Column) where
         (side j (omega arith)))
         (side i hi)
 
-    ambiguous_clashes : (a b : Column) → Has all a → Has all b → WithAndWithout a b → Clash ls rs
+    ambiguous_clashes : (a b : Column) → ContainsAt all a → ContainsAt all b → WithAndWithout a b → Clash ls rs
     ambiguous_clashes a b ha hb h =
         ⊎_elim (λ al. ⊎_elim (λ bl. absurd (with_and_without ls a b left.1 al bl h)) (λ br. (a, b, al, br, inr (inl h))) (split b hb))
         (λ ar. ⊎_elim (λ bl. (b, a, bl, ar, inr (inr h))) (λ br. absurd (with_and_without rs a b right.1 ar br h)) (split b hb)) (split a ha)

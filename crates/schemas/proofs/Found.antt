@@ -1,7 +1,6 @@
 -- What the search for a column tells.
 use Rattle.std.proofs.Common.{◌≡◌, ℕ, ◌<◌, Bool, true, false, List, [], ◌∷◌, length, is_some, Some, None, Decides, Option, Ordering, Less, Equal, Greater, sym, refl, ap, ◌∙◌, subst, arith, MatchOption}
-use Rattle.std.specs.Ordering.{Then, ordering_then}
-use Rattle.std.specs.Cmp.Lexicographic.{Lex}
+use Rattle.std.specs.Ordering.{ordering_then}
 use Rattle.std.specs.List.{HoldsAt, AllWithin}
 use Rattle.std.proofs.lemmas.Bool.{false≢true}
 use Rattle.names.specs.declared.column.Column.{Column}
@@ -9,17 +8,11 @@ use Rattle.names.specs.declared.table_reference.TableReference.{TableReference}
 use Rattle.names.specs.declared.table_reference.TableReference.TheVariants.{Bare, Partial, Full}
 use Rattle.names.specs.Columns.{column_of, relation_parts}
 use Rattle.names.specs.Names.{text_of}
-use Rattle.names.specs.Order.{ByNumber, ByBytes, InOrder}
+use Rattle.names.specs.Order.{ByBytes, InOrder}
 use Rattle.names.specs.References.{parts_of}
 use Rattle.names.specs.declared.name.Name.{Name}
 use Rattle.schemas.specs.CheckNames.{Ambiguous}
-use Rattle.schemas.specs.ColumnOrder.{relation_rank, column_key, column_order, compare_columns}
-
--- the answer of one comparison and then another
-pub then_of : (P Q : Ordering → Type 0) (o p : Ordering) → P o → Q p → Then P Q (ordering_then o p)
-then_of P Q Less p x y = (Less, x, refl)
-then_of P Q Equal p x y = (Equal, x, y)
-then_of P Q Greater p x y = (Greater, x, refl)
+use Rattle.schemas.specs.ColumnOrder.{relation_rank, compare_keys, compare_columns}
 
 -- a reference has a part
 pub some_part : (r : TableReference) → parts_of r ≡ [] → ⊥
@@ -27,25 +20,23 @@ some_part (Bare t) e = let z : ◌≡◌ {A = ℕ} 0 1 = cc in omega arith
 some_part (Partial s t) e = let z : ◌≡◌ {A = ℕ} 0 1 = cc in omega arith
 some_part (Full c s t) e = let z : ◌≡◌ {A = ℕ} 0 1 = cc in omega arith
 
-pub found_tells : (cs : List Column) (c bare : Column) (r : Option ℕ) → (relation_parts c.relation ≡ [] → ⊥) → column_of bare ≡ ([], text_of c.name) → MatchOption r (AllWithin (λ y. Decides false (column_of y ≡ column_of bare)) cs 0 (length cs)) (λ i. (i < length cs) × HoldsAt (λ y. Decides true (column_of y ≡ column_of bare)) cs i × AllWithin (λ y. Decides false (column_of y ≡ column_of bare)) cs 0 i) → Decides (is_some r) (Ambiguous cs c)
-found_tells cs c bare None some e h = ((λ x. absurd (false≢true x)), λ a. absurd (false≢true ((h a.1.0 c (omega arith) a.1.1).1 (a.1.2 c ∙ sym e))))
-found_tells cs c bare (Some i) some e h = ((λ x. (some, (i, h.0, λ d. (h.1 d).0 refl ∙ e))), λ a. refl)
+pub found_tells : (cs : List Column) (c bare : Column) (r : Option ℕ) → (relation_parts c.relation ≡ [] → ⊥) → column_of bare ≡ ([], text_of c.name) → MatchOption r (AllWithin (λ y. column_of y ≡ column_of bare → ⊥) cs 0 (length cs)) (λ i. (i < length cs) × HoldsAt (λ y. column_of y ≡ column_of bare) cs i × AllWithin (λ y. column_of y ≡ column_of bare → ⊥) cs 0 i) → Decides (is_some r) (Ambiguous cs c)
+found_tells cs c bare None some e h = ((λ x. absurd (false≢true x)), λ a. absurd (h a.1.0 c (omega arith) a.1.1 (a.1.2 c ∙ sym e)))
+found_tells cs c bare (Some i) some e h = ((λ x. (some, (i, h.0, λ d. h.1 d ∙ e))), λ a. refl)
 
 -- how two columns compare, by the forms of their references
 module _ (a b : Column) where
-  abbrev Compared : Option TableReference → Option TableReference → Ordering → Type 0
-  Compared x y r = Then (Then (ByNumber (relation_rank x) (relation_rank y)) (λ o. Lex ByBytes (relation_parts x) (relation_parts y) o)) (ByBytes (text_of a.name) (text_of b.name)) r
+  abbrev of_relations : Option TableReference → Option TableReference → Ordering
+  of_relations x y = compare_keys ((relation_rank x, relation_parts x), text_of a.name) ((relation_rank y, relation_parts y), text_of b.name)
 
-  compared : (x y : Option TableReference) (r : Ordering) → a.relation ≡ x → b.relation ≡ y → Compared x y r → r ≡ compare_columns a b
-  compared x y r ex ey h =
-      column_order.says (column_key a) (column_key b) r (subst (λ (s : Option TableReference). Compared s b.relation r) (sym ex) (subst (λ (s : Option TableReference). Compared x s r) (sym ey) h))
+  compared : (x y : Option TableReference) → a.relation ≡ x → b.relation ≡ y → of_relations x y ≡ compare_columns a b
+  compared x y ex ey = λ i. of_relations (sym ex i) (sym ey i)
 
   pub compared_some : (x y : TableReference) (o p : Ordering) → a.relation ≡ Some x → b.relation ≡ Some y → InOrder x y o → ByBytes (text_of a.name) (text_of b.name) p → ordering_then o p ≡ compare_columns a b
-  compared_some x y o p ex ey ho hp =
-      compared (Some x) (Some y) (ordering_then o p) ex ey (then_of (InOrder x y) (ByBytes (text_of a.name) (text_of b.name)) o p ho hp)
+  compared_some x y o p ex ey ho hp = (λ i. ordering_then (ho i) (hp i)) ∙ compared (Some x) (Some y) ex ey
 
   pub compared_none : (p : Ordering) → a.relation ≡ None → b.relation ≡ None → ByBytes (text_of a.name) (text_of b.name) p → p ≡ compare_columns a b
-  compared_none p ex ey hp = compared None None p ex ey (then_of (Then (ByNumber 3 3) (λ o. Lex ByBytes [] [] o)) (ByBytes (text_of a.name) (text_of b.name)) Equal p (then_of (ByNumber 3 3) (λ o. Lex ByBytes [] [] o) Equal Equal refl refl) hp)
+  compared_none p ex ey hp = hp ∙ compared None None ex ey
 
 -- a column without a reference
 pub bare_text : (c : Column) (n : Name) → c.relation ≡ None → c.name ≡ n → column_of c ≡ ([], text_of n)

@@ -1,6 +1,6 @@
 -- The tests of columns decide whether they are equal, and a search whether one is there.
-use Rattle.std.proofs.Common.{◌≡◌, ℕ, ◌<◌, Bool, true, false, List, [], ◌∷◌, length, is_some, Some, None, Decides, Option, refl, ap, ◌∙◌, arith, MatchOption}
-use Rattle.std.specs.List.{HoldsAt, AllWithin}
+use Rattle.std.proofs.Common.{◌≡◌, ℕ, ◌<◌, Bool, true, false, not, ◌&&◌, ◌||◌, List, [], ◌∷◌, length, is_some, Some, None, Decides, Option, refl, ap, ◌∙◌, arith, MatchOption}
+use Rattle.std.specs.List.{HoldsAt, AllWithin, list_all}
 use Rattle.std.proofs.lemmas.Slice.Eq.{bytes_eq-Decides}
 use Rattle.std.proofs.lemmas.Bool.{and_parts, and_from, false≢true}
 use Rattle.std.proofs.lemmas.Bool.Decides.{same_from_decides, Decides-and, Decides-like, Decides-by_or}
@@ -42,6 +42,11 @@ has_qualified_name_decides q n f =
     Decides-like (has_qualified_name q n f) (λ e. ap (λ (x : List (List ℕ)). (x, text_of f.column.name)) e.0 ∙ ap (λ (x : List ℕ). (parts_of q, x)) e.1)
     (λ e. (ap (λ (x : List (List ℕ) × List ℕ). x.0) e, ap (λ (x : List (List ℕ) × List ℕ). x.1) e)) (Decides-and (same_parts parts (parts_of q)) (has_name n f) (same_parts_decides parts (parts_of q)) (has_name_decides n f))
 
+-- one that passes, or one later
+one_more : (b rest : Bool) → not (not b && rest) ≡ (b || not rest)
+one_more true rest = refl
+one_more false rest = refl
+
 -- what a search for the first of which P holds tells of them all
 module _ {X : Type 0} (P : X → Type 0) where
   pub search_tells : (xs : List X) (r : Option ℕ) → MatchOption r (AllWithin (λ x. P x → ⊥) xs 0 (length xs)) (λ i. (i < length xs) × HoldsAt P xs i × AllWithin (λ x. P x → ⊥) xs 0 i) → Decides (is_some r) ((k : ℕ) × (k < length xs) × HoldsAt P xs k)
@@ -49,13 +54,9 @@ module _ {X : Type 0} (P : X → Type 0) where
   search_tells (x ∷ xs) None h = ((λ e. absurd (false≢true e)), λ s. absurd (h s.0 x (omega arith) s.1 (s.2 x)))
   search_tells xs (Some i) h = ((λ _. (i, h.0, h.1)), λ _. refl)
 
-  pub plainly : (xs : List X) (r : Option ℕ) → MatchOption r (AllWithin (λ x. Decides false (P x)) xs 0 (length xs)) (λ i. (i < length xs) × HoldsAt (λ x. Decides true (P x)) xs i × AllWithin (λ x. Decides false (P x)) xs 0 i) → MatchOption r (AllWithin (λ x. P x → ⊥) xs 0 (length xs)) (λ i. (i < length xs) × HoldsAt P xs i × AllWithin (λ x. P x → ⊥) xs 0 i)
-  plainly xs None h = λ k d low high p. false≢true ((h k d low high).1 p)
-  plainly xs (Some i) h = (h.0, (λ d. (h.1 d).0 refl), λ k d low high p. false≢true ((h.2 k d low high).1 p))
-
   pub found_is : (p : X → Bool) → ((x : X) → Decides (p x) (P x)) → (xs : List X) (r : Option ℕ) → MatchOption r (AllWithin (λ x. P x → ⊥) xs 0 (length xs)) (λ i. (i < length xs) × HoldsAt P xs i × AllWithin (λ x. P x → ⊥) xs 0 i) → is_some r ≡ some_passes p xs
   found_is p each xs r h =
-      same_from_decides (is_some r) (some_passes p xs) (search_tells xs r h) (Decides-by_or p P (some_passes p) each refl (λ _ _. refl) xs)
+      same_from_decides (is_some r) (some_passes p xs) (search_tells xs r h) (Decides-by_or p P (some_passes p) each refl (λ x xs. one_more (p x) (list_all (λ y. not (p y)) xs)) xs)
 
 module _ (fs : List Field) (c : Column) where
   abbrev By : Option TableReference → Bool

@@ -39,9 +39,9 @@ below x c y above h =
     let kx = column_key x in
     let kc = column_key c in
     let ky = column_key y in
-    let lower : compare_columns x c ≡ Less = column_order.flip kx kc ∙ ap ordering_reverse above in
+    let lower : compare_columns x c ≡ Less = column_order.antisymm kx kc ∙ ap ordering_reverse above in
     ⊎_elim (λ l. less_not_gt (compare_columns x y) (column_order.trans kx kc ky lower l))
-    (λ e. less_not_gt (compare_columns x y) (column_order.flip kx ky ∙ ap ordering_reverse (sym (column_order.alike kc ky kx e) ∙ above))) (not_gt (compare_columns c y) h)
+    (λ e. less_not_gt (compare_columns x y) (column_order.antisymm kx ky ∙ ap ordering_reverse (sym (column_order.congr kc ky kx e) ∙ above))) (not_gt (compare_columns c y) h)
 
 module _ (cs : List Column) (n : ℕ) (x : Column) (inside : n < length cs) (here : x ≡ get_or cs n x) where
   at_n : (d : Column) → get_or cs n d ≡ x
@@ -70,7 +70,7 @@ module _ (cs : List Column) (n : ℕ) (x : Column) (inside : n < length cs) (her
   least_first none a = record {
     listed = (n, omega arith, at_n);
     ambiguous = a;
-    least = upto x (itself (compare_columns x x) (column_order.flip (column_key x) (column_key x))) (λ k d h amb. absurd (none k d h amb));
+    least = upto x (itself (compare_columns x x) (column_order.antisymm (column_key x) (column_key x))) (λ k d h amb. absurd (none k d h amb));
   }
 
   pub least_lesser : (c : Column) → LeastTo cs n c → Ambiguous cs x → LeastTo cs (n + 1) (cond (is_gt (compare_columns c x)) x c)
@@ -80,7 +80,7 @@ module _ (cs : List Column) (n : ℕ) (x : Column) (inside : n < length cs) (her
       go true e = record {
         listed = (n, omega arith, at_n);
         ambiguous = a;
-        least = upto x (itself (compare_columns x x) (column_order.flip (column_key x) (column_key x))) (λ k d h amb. below x c (get_or cs k d) (gt_is (compare_columns c x) e) (l.least k d h amb));
+        least = upto x (itself (compare_columns x x) (column_order.antisymm (column_key x) (column_key x))) (λ k d h amb. below x c (get_or cs k d) (gt_is (compare_columns c x) e) (l.least k d h amb));
       }
       go false e = record { listed = grown c l.listed; ambiguous = l.ambiguous; least = upto c e l.least }
 

@@ -11,6 +11,9 @@ use Rattle.names.specs.Names.{text_of}
 use Rattle.names.specs.declared.table_reference.TableReference.{TableReference}
 use Rattle.schemas.specs.declared.dfschema.Field.{Field}
 use Rattle.names.specs.declared.name.Name.{Name}
+use Rattle.names.specs.Same.{same_parts_and_text}
+use Rattle.names.proofs.FirstPlaces.{told}
+use Rattle.names.proofs.Same.{parts_and_text_decide}
 use Rattle.schemas.specs.Lookups.{Means}
 use Rattle.schemas.specs.Merges.{same_parts, same_name, same_column, some_passes, is_there}
 
@@ -73,9 +76,12 @@ module _ (fs : List Field) (f : Field) where
   there_none e = ap (λ (r : Option TableReference). elim r [ None ↦ by_name | Some q ↦ by_column ]) e
 
 -- what the search for a column, and the look-up of a name alone, say in plain words
-pub searched : (cs : List Column) (c : Column) (r : Option ℕ) → MatchOption r (AllWithin (λ y. Decides false (column_of y ≡ column_of c)) cs 0 (length cs)) (λ i. (i < length cs) × HoldsAt (λ y. Decides true (column_of y ≡ column_of c)) cs i × AllWithin (λ y. Decides false (column_of y ≡ column_of c)) cs 0 i) → MatchOption r (AllWithin (λ y. column_of y ≡ column_of c → ⊥) cs 0 (length cs)) (λ i. (i < length cs) × HoldsAt (λ y. column_of y ≡ column_of c) cs i)
-searched cs c None h = λ k d low high e. false≢true ((h k d low high).1 e)
-searched cs c (Some i) h = (h.0, λ d. (h.1 d).0 refl)
+pub searched : (cs : List Column) (c : Column) (r : Option ℕ) → MatchOption r (AllWithin (λ y. ¬ (same_parts_and_text (column_of y) (column_of c) ≡ true)) cs 0 (length cs)) (λ i. (i < length cs) × HoldsAt (λ y. same_parts_and_text (column_of y) (column_of c) ≡ true) cs i × AllWithin (λ y. ¬ (same_parts_and_text (column_of y) (column_of c) ≡ true)) cs 0 i) → MatchOption r (AllWithin (λ y. column_of y ≡ column_of c → ⊥) cs 0 (length cs)) (λ i. (i < length cs) × HoldsAt (λ y. column_of y ≡ column_of c) cs i)
+searched cs c None h =
+    told (λ x y. same_parts_and_text (column_of x) (column_of y)) c (λ x. column_of x ≡ column_of c) (λ x. parts_and_text_decide (column_of x) (column_of c)) cs None h
+searched cs c (Some i) h =
+    let t = told (λ (x y : Column). same_parts_and_text (column_of x) (column_of y)) c (λ x. column_of x ≡ column_of c) (λ x. parts_and_text_decide (column_of x) (column_of c)) cs (Some i) h in
+    (t.0, t.1)
 
 pub named : (fs : List Field) (n : Name) (r : Option ℕ) → MatchOption r (AllWithin (λ f. Means None n f → ⊥) fs 0 (length fs)) (λ i. (i < length fs) × HoldsAt (Means None n) fs i × AllWithin (λ f. Means None n f → ⊥) fs 0 i) → MatchOption r (AllWithin (λ g. text_of g.column.name ≡ text_of n → ⊥) fs 0 (length fs)) (λ i. (i < length fs) × HoldsAt (λ g. text_of g.column.name ≡ text_of n) fs i)
 named fs n None h = λ k d low high e. h k d low high (e, tt)

@@ -1,6 +1,6 @@
 -- When two schemas cannot be joined.
 use Rattle.std.specs.Prelude.{◌≡◌, ◌+◌, ◌<◌, ◌≤◌, ◌⊎◌, List, [], map, length, None, Result, MatchResult, ◌≢◌}
-use Rattle.std.specs.List.{ContainsAt as Has}
+use Rattle.std.specs.List.{ContainsAt}
 use Rattle.names.specs.declared.column.Column.{Column}
 use Rattle.names.specs.declared.error.Refusal.{Refusal}
 use Rattle.names.specs.Columns.{column_of, relation_parts}
@@ -20,7 +20,7 @@ ClashOf a b = (column_of a ≡ column_of b) ⊎ (WithAndWithout a b ⊎ WithAndW
 
 -- some column of the one list clashes with some column of the other
 abbrev pub Clash : List Column → List Column → Type 0
-Clash ls rs = (a b : Column) × Has ls a × Has rs b × ClashOf a b
+Clash ls rs = (a b : Column) × ContainsAt ls a × ContainsAt rs b × ClashOf a b
 
 -- two schemas whose names pass are joined where they have at most 64 columns together and do not clash, and else refused
 abbrev pub JoinedUnlessClash : List Field → List Field → Result DFSchema Refusal → Type 0

@@ -4,13 +4,11 @@ ghost use Rattle.names.specs.Columns.{column_of};
 ghost use Rattle.schemas.specs.Lookups.{RelationFits, Means, SomeMeant, FirstMeant, unknown_column, has_name, has_qualified_name, has_column};
 ghost use Rattle.schemas.specs.Merges.{some_passes};
 ghost use Rattle.schemas.specs.Schemas.{fields_of};
-ghost use Rattle.std.specs.Cmp.Rules.{comparing};
-ghost use Rattle.std.proofs.Common.{rules};
 
 use crate::dfschema::{DFSchema, Field};
 use names::column::Column;
 use names::error::{MissingField, Refusal, SchemaError};
-use names::first::first_position;
+use names::first::{SameAs, first_position};
 use names::name::Name;
 use names::table_reference::TableReference;
 
@@ -31,22 +29,18 @@ fn relation_fits(asked: &Option<TableReference>, relation: &Option<TableReferenc
     }
 }
 
-impl PartialEq<Lookup> for Field {
-    ghost equals = { λ f l r. Decides r (Means l.relation l.name f) };
+impl SameAs<Lookup> for Field {
+    ghost is_same = { λ f l. Means l.relation l.name f };
 
-    ghost laws = { Prim.search (comparing, rules) };
-
-    fn eq(&self, other: &Lookup) -> bool {
+    fn same_as(&self, other: &Lookup) -> bool {
         self.column.name == other.name && relation_fits(&other.relation, &self.column.relation)
     }
 }
 
-impl PartialEq<Column> for Field {
-    ghost equals = { λ f c r. Decides r (column_of f.column ≡ column_of c) };
+impl SameAs<Column> for Field {
+    ghost is_same = { λ f c. column_of f.column ≡ column_of c };
 
-    ghost laws = { Prim.search (comparing, rules) };
-
-    fn eq(&self, other: &Column) -> bool {
+    fn same_as(&self, other: &Column) -> bool {
         self.column == *other
     }
 }

@@ -3,6 +3,7 @@ use Rattle.std.proofs.lemmas.List.{get_or-take, get_or_default, length-take-le}
 use Rattle.std.proofs.lemmas.Bool.{cases_eq, false≢true}
 use Rattle.names.specs.declared.column.Column.{Column}
 use Rattle.names.specs.Columns.{column_of}
+use Rattle.names.proofs.Same.{parts_and_text_decide}
 use Rattle.schemas.specs.CheckNames.{SameAt}
 use Rattle.schemas.proofs.check_names.first_repeat.Goals as goal
 
@@ -21,7 +22,7 @@ loop-i-preserved c i j hj hi s =
     let within : j < length (take (n - 0) cs) = omega (arith, ap (λ k. length (take k cs)) front, length-take-le n cs (omega arith)) in
     let same : column_of (get_or (take (n - 0) cs) j x) ≡ column_of x =
     ap (λ k. column_of (get_or (take k cs) j x)) front ∙ ap column_of (get_or-take n cs j x hn) ∙ s x ∙ ap (λ k. column_of (get_or cs k x)) e ∙ ap column_of (sym c.index-columns-i.is) in
-    false≢true ((c.in-None.ensures j x (omega arith) within).1 same))
+    c.in-None.ensures j x (omega arith) within ((parts_and_text_decide _ (column_of x)).1 same))
     (λ ne. c.loop-i.invariant i j hj (omega arith) s)
     (cases_eq i n)
 
@@ -40,7 +41,7 @@ returns-in-Some c =
       repeats = (
         j,
         hj,
-        λ d. ap column_of (get_or_default cs j d x (omega arith)) ∙ sym (ap (λ k. column_of (get_or (take k cs) j x)) front ∙ ap column_of (get_or-take n cs j x hj)) ∙ (said.1 x).0 refl
+        λ d. ap column_of (get_or_default cs j d x (omega arith)) ∙ sym (ap (λ k. column_of (get_or (take k cs) j x)) front ∙ ap column_of (get_or-take n cs j x hj)) ∙ (parts_and_text_decide (column_of (get_or (take (n - 0) cs) j x)) (column_of x)).0 (said.1 x)
             ∙ ap column_of (c.index-columns-i.is ∙ get_or_default cs n x d (omega arith)),
       );
     }

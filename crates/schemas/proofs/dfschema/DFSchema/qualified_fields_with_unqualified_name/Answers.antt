@@ -15,7 +15,7 @@ loop-field-preserved c =
     let inside = c.loop-field-test.true in
     let here = c.field-item.is in
     let so_far = c.loop-field.invariant in
-    let tested : has_name n x ≡ c.eq.result = same_from_decides (has_name n x) c.eq.result (has_name_decides n x) c.eq.ensures in
+    let tested : has_name n x ≡ c.eq.result = same_from_decides (has_name n x) c.eq.result (has_name_decides n x) c.eq.ensures.decides in
     elim c.if-eq.branch [
       | then-eq w ↦
           let test = tested ∙ w.if-eq.true in
