@@ -1,5 +1,5 @@
 -- A loop that looks for an element that passes p, seen through a view v, and stops at the first.
-use Rattle.std.proofs.Common.{◌≡◌, ℕ, ◌+◌, ◌<◌, ◌≤◌, Bool, true, false, not, ◌&&◌, ◌||◌, List, [], ◌∷◌, map, length, get_or, take, sym, refl, ap, ◌∙◌, arith}
+use Rattle.std.proofs.Common.{◌≡◌, ℕ, ◌+◌, ◌<◌, ◌≤◌, Bool, true, false, not, List, map, length, get_or, take, sym, refl, ap, ◌∙◌, arith}
 use Rattle.std.specs.List.{list_all}
 use Rattle.std.proofs.lemmas.List.{get_or-map, length-map, take_all}
 use Rattle.bounded.proofs.Tests.{all_pass_more, all_pass_fails}
@@ -7,8 +7,7 @@ use Rattle.schemas.specs.Merges.{some_passes}
 
 -- one passes where not all fail
 some_is : {Y : Type 0} (p : Y → Bool) (ys : List Y) → some_passes p ys ≡ not (list_all (λ y. not (p y)) ys)
-some_is p [] = refl
-some_is p (y ∷ ys) = elim (p y) as (λ b. (b || some_passes p ys) ≡ not (not b && list_all (λ z. not (p z)) ys)) [ true ↦ refl | false ↦ some_is p ys ]
+some_is p ys = refl
 
 module _ {X Y : Type 0} (v : X → Y) (p : Y → Bool) (xs : List X) (i : ℕ) where
   -- none of the first i passes

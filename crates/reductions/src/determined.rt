@@ -7,7 +7,7 @@ use dependencies::functional_dependencies::FunctionalDependence;
 
 // whether the column is a target of the dependency, whose sources are all known
 fn determines<P: Predicate>(dependency: &FunctionalDependence, known: &P, column: u16) -> bool
-    ensures { result ≡ determined_by (passes known.now) column (dep_of dependency.now) }
+    ensures { result ≡ determined_by (P.passes known.now) column (dep_of dependency.now) }
 {
     dependency.target_indices().contains(column) && dependency.source_indices().all_pass(known)
 }
@@ -18,7 +18,7 @@ pub fn is_determined<P: Predicate>(
     known: &P,
     column: u16,
 ) -> bool
-    ensures { result ≡ is_determined (passes known.now) (map dep_of dependencies.now) column }
+    ensures { result ≡ is_determined (P.passes known.now) (map dep_of dependencies.now) column }
 {
     for dependency in dependencies {
         if determines(dependency, known, column) {
