@@ -9,9 +9,6 @@ use Rattle.reductions.specs.GroupByLaws.{names_at}
 use Rattle.aggregates.specs.Targets.{target_columns}
 use Rattle.aggregates.proofs.aggregate.covers_all.Goals as goal
 
-tested : (xs ys : List ℕ) (r : Bool) → Decides r (xs ≡ ys) → r ≡ bytes_eq xs ys
-tested xs ys r h = search (rules, bytes_eq-Decides)
-
 pub returns-then-not-is_empty : goal.returns-then-not-is_empty
 returns-then-not-is_empty c =
     let texts = map full_text_of c.args.field_names.now in
@@ -21,7 +18,7 @@ returns-then-not-is_empty c =
     let some = target_columns texts ds (names_at names (columns_of c.args.places.now)) in
     let targets : columns_of c.target_columns-targets.result ≡ some = c.target_columns-targets.ensures ∙ ap (target_columns texts ds) (ap (map full_text_of) c.as_slice.ensures.value ∙ c.names_at-matched_names.ensures) in
     let filled : eqb (length some) 0 ≡ false = ap (λ l. eqb (length l) 0) (sym targets) ∙ sym c.if-not-is_empty.ensures in
-    tested (columns_of c.target_columns.result) (columns_of c.target_columns-targets.result) c.eq.result c.eq.ensures ∙ ap (λ l. bytes_eq l (columns_of c.target_columns-targets.result)) c.target_columns.ensures ∙ ap (bytes_eq all) targets
+    c.eq.ensures.tested ∙ ap (λ l. bytes_eq l (columns_of c.target_columns-targets.result)) c.target_columns.ensures ∙ ap (bytes_eq all) targets
     ∙ sym (ap (λ b. not b && bytes_eq all some) filled)
 
 pub returns-else-not-is_empty : goal.returns-else-not-is_empty
