@@ -1,15 +1,14 @@
 -- The key of all names, and that the dependencies of a grouping list no missing column.
-use Rattle.std.proofs.Common.{◌≡◌, ℕ, zero, suc, ◌+◌, ◌<◌, ◌≤◌, Bool, true, false, cond, eqb, ltb, ◌⊎◌, List, [], ◌∷◌, ◌++◌, map, length, Some, None, filter, Option, sym, refl, ap, ◌∙◌, ⊎_elim, arith}
+use Rattle.std.proofs.Common.{◌≡◌, ℕ, zero, suc, ◌+◌, ◌<◌, ◌≤◌, Bool, true, false, cond, eqb, ltb, ◌⊎◌, List, [], ◌∷◌, ◌++◌, map, length, None, filter, sym, refl, ◌∙◌, ⊎_elim, arith}
 use Rattle.std.specs.List.{range_with_len, AllByRecursion}
 use Rattle.std.proofs.ByRecursion.{all_kept_by}
 use Rattle.std.proofs.lemmas.Bool.{ne_eqb, eq-eqb, ltb-false, cond-true, cond-false}
-use Rattle.names.specs.declared.error.Refusal.{Refusal}
 use Rattle.names.specs.declared.error.Refusal.TheVariants.{Oversize, NoColumn}
 use Rattle.names.specs.Refusals.{refused_if}
 use Rattle.dependencies.specs.Model.{Dep}
 use Rattle.dependencies.specs.Tables.{Within, Valid}
 use Rattle.schemas.specs.declared.dfschema.Field.{Field}
-use Rattle.aggregates.specs.Aggregates.{aggregate_refusal, matched_places, is_carried, carried_dep, carried_deps, group_key, or_key, aggregated}
+use Rattle.aggregates.specs.Aggregates.{aggregate_refusal, is_carried, carried_dep, carried_deps, group_key, or_key, aggregated}
 use Rattle.aggregates.specs.Targets.{is_among}
 
 module _ (count : ℕ) (key : Dep) where

@@ -1,5 +1,5 @@
 -- Rows that agree on the named columns agree on the targets.
-use Rattle.std.proofs.Common.{◌≡◌, ℕ, true, ◌&&◌, ltb, List, length, arith}
+use Rattle.std.proofs.Common.{◌≡◌, ℕ, true, ltb, List, length, arith}
 use Rattle.std.proofs.lemmas.Bool.{and_parts, ltb-true}
 use Rattle.dependencies.specs.Model.{Dep}
 use Rattle.dependencies.specs.Tables.{cell_at, row_at}

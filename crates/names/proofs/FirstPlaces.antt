@@ -3,7 +3,7 @@ use Rattle.std.proofs.Common.{◌≡◌, ℕ, zero, suc, ◌+◌, ◌<◌, ◌�
 use Rattle.std.specs.Option.{option_map, option_to_list as optional}
 use Rattle.std.specs.List.{HoldsAt, AllWithin, list_all}
 use Rattle.std.proofs.lemmas.List.{take_more, flat_map_more, length-append, append-nil}
-use Rattle.std.proofs.lemmas.Bool.{ne_eqb, false≢true}
+use Rattle.std.proofs.lemmas.Bool.{ne_eqb}
 use Rattle.std.proofs.lemmas.Bool.Decides.{nat_tests}
 use Rattle.names.specs.FirstPlaces.{first_where, first_places}
 

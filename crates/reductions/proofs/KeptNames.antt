@@ -1,5 +1,5 @@
 -- The names at the answered positions mean the kept columns, and rows that agree on these agree on all that the names mean.
-use Rattle.std.proofs.Common.{◌≡◌, ℕ, suc, ◌<◌, Bool, true, false, cond, List, [], ◌∷◌, ◌++◌, map, length, get_or, is_some, IfSome, Some, None, Option, sym, refl, ap, ◌∙◌, subst, arith}
+use Rattle.std.proofs.Common.{◌≡◌, ℕ, suc, ◌<◌, Bool, true, false, cond, List, [], ◌∷◌, ◌++◌, map, length, is_some, IfSome, Some, None, Option, refl, ap, ◌∙◌, subst, arith}
 use Rattle.std.specs.Option.{option_map, option_to_list as optional}
 use Rattle.std.specs.List.{AllByRecursion}
 use Rattle.std.specs.Str.{bytes_eq}
@@ -10,7 +10,7 @@ use Rattle.names.specs.FirstPlaces.{first_where, first_places}
 use Rattle.names.proofs.FirstPlaces.{place_passes}
 use Rattle.columns.specs.Columns.{is_listed}
 use Rattle.dependencies.specs.Model.{Dep}
-use Rattle.dependencies.specs.Tables.{Table, cell_at, row_at, Agree, Keeps, KeepsAll}
+use Rattle.dependencies.specs.Tables.{cell_at, row_at, Keeps}
 use Rattle.reductions.specs.Meant.{column_named, meant, text_at}
 use Rattle.reductions.specs.GroupBy.{ordered, all_columns, required_columns}
 use Rattle.reductions.specs.GroupByLaws.{names_at, KeptDecide, PositionsIn}

@@ -1,5 +1,5 @@
 -- What the reduction of group-by names means for rows.
-use Rattle.std.specs.Prelude.{◌≡◌, ℕ, ◌<◌, List, map, length, get_or}
+use Rattle.std.specs.Prelude.{ℕ, ◌<◌, List, map, length}
 use Rattle.std.specs.List.{AllByRecursion}
 use Rattle.dependencies.specs.Model.{Dep}
 use Rattle.dependencies.specs.Tables.{Table, row_at, Agree, KeepsAll}

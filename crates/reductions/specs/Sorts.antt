@@ -1,5 +1,5 @@
 -- The reduction of sort entries.
-use Rattle.std.specs.Prelude.{◌≡◌, ℕ, ◌<◌, Bool, true, false, not, List, map, length, Some, None, filter, Option, slice_index_or}
+use Rattle.std.specs.Prelude.{◌≡◌, ℕ, ◌<◌, Bool, false, not, List, map, length, Some, None, filter, slice_index_or}
 use Rattle.std.specs.List.{range_with_len}
 use Rattle.names.specs.declared.name.FullName.{FullName}
 use Rattle.names.specs.Names.{full_text_of}

@@ -1,5 +1,5 @@
 -- What the search for a column tells.
-use Rattle.std.proofs.Common.{◌≡◌, ℕ, ◌<◌, Bool, true, false, List, [], ◌∷◌, length, is_some, Some, None, Decides, Option, Ordering, Less, Equal, Greater, sym, refl, ap, ◌∙◌, subst, arith, MatchOption}
+use Rattle.std.proofs.Common.{◌≡◌, ℕ, ◌<◌, List, [], length, is_some, Some, None, Decides, Option, Ordering, sym, refl, ap, ◌∙◌, arith, MatchOption}
 use Rattle.std.specs.Ordering.{ordering_then}
 use Rattle.std.specs.List.{HoldsAt, AllWithin}
 use Rattle.std.proofs.lemmas.Bool.{false≢true}

@@ -11,7 +11,7 @@ use Rattle.names.specs.References.{parts_of}
 use Rattle.names.specs.declared.table_reference.TableReference.{TableReference}
 use Rattle.schemas.specs.declared.dfschema.Field.{Field}
 use Rattle.names.specs.declared.name.Name.{Name}
-use Rattle.schemas.specs.Lookups.{Means, has_name, has_qualified_name, has_column}
+use Rattle.schemas.specs.Lookups.{has_name, has_qualified_name, has_column}
 use Rattle.schemas.specs.Merges.{same_parts, some_passes}
 
 head_is : (p q : List ℕ) (ps qs : List (List ℕ)) → p ∷ ps ≡ q ∷ qs → p ≡ q

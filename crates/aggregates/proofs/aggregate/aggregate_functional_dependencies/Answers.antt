@@ -1,4 +1,4 @@
-use Rattle.std.proofs.Common.{◌≡◌, ℕ, ◌≤◌, List, length, IfOk, Some, None, Ok, Err, Option, Result, sym, ap, ◌∙◌, subst, arith}
+use Rattle.std.proofs.Common.{◌≡◌, List, length, IfOk, None, Ok, Err, Option, Result, sym, subst, arith}
 use Rattle.std.proofs.lemmas.List.{length-map}
 use Rattle.names.specs.declared.error.Refusal.{Refusal}
 use Rattle.names.specs.Names.{full_text_of}

@@ -1,4 +1,4 @@
-use Rattle.std.proofs.Common.{◌≡◌, map, filter, sym, ap, ◌∙◌}
+use Rattle.std.proofs.Common.{map, filter, sym, ap, ◌∙◌}
 use Rattle.std.specs.List.{range_with_len}
 use Rattle.std.proofs.lemmas.List.{length-map}
 use Rattle.names.specs.Names.{full_text_of}

@@ -1,4 +1,4 @@
-use Rattle.std.proofs.Common.{◌≡◌, ◌<◌, [], ◌∷◌, ◌++◌, length, sym, ap, ◌∙◌, inl, inr, arith}
+use Rattle.std.proofs.Common.{◌≡◌, [], ◌∷◌, ◌++◌, length, sym, ap, ◌∙◌, inl, inr, arith}
 use Rattle.columns.proofs.Sizes.{room_pushes}
 use Rattle.dependencies.specs.View.{deps_of}
 use Rattle.aggregates.specs.Aggregates.{group_key}

@@ -1,4 +1,4 @@
-use Rattle.std.proofs.Common.{◌≡◌, ℕ, Bool, true, false, cond, List, map, IfSome, IfOk, Some, None, Ok, Err, Option, Result, sym, subst, arith}
+use Rattle.std.proofs.Common.{◌≡◌, ℕ, Bool, true, false, cond, List, IfSome, IfOk, Some, None, Ok, Err, Option, Result, sym, subst, arith}
 use Rattle.std.specs.Option.{option_map}
 use Rattle.columns.specs.declared.column_list.ColumnList.{ColumnList}
 use Rattle.columns.specs.Columns.{columns_of}

@@ -1,4 +1,4 @@
-use Rattle.std.proofs.Common.{◌≡◌, ◌≤◌, map, length}
+use Rattle.std.proofs.Common.{◌≤◌, map, length}
 use Rattle.names.specs.Names.{full_text_of}
 use Rattle.columns.specs.Columns.{columns_of}
 use Rattle.dependencies.specs.View.{dep_of}

@@ -1,11 +1,10 @@
-use Rattle.std.proofs.Common.{◌≡◌, not, [], ◌++◌, map, Some, None, Option, sym, ap, ◌∙◌}
+use Rattle.std.proofs.Common.{not, ◌++◌, map, Some, None, sym, ap, ◌∙◌}
 use Rattle.std.specs.Option.{option_to_list as optional}
 use Rattle.std.proofs.lemmas.List.{append-nil}
 use Rattle.names.specs.Names.{full_text_of}
 use Rattle.columns.specs.Columns.{columns_of}
 use Rattle.columns.proofs.Sizes.{room_pushes}
 use Rattle.dependencies.specs.View.{dep_of}
-use Rattle.reductions.specs.Meant.{column_named}
 use Rattle.reductions.proofs.Dropped.{dropped_known, dropped_unknown}
 use Rattle.reductions.proofs.Searched.{first_named}
 use Rattle.reductions.proofs.sort.require.Goals as goal

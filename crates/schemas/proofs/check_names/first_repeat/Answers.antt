@@ -1,10 +1,8 @@
-use Rattle.std.proofs.Common.{◌≡◌, ℕ, ◌-◌, ◌<◌, List, length, get_or, take, sym, refl, ap, ◌∙◌, subst, ⊎_elim, arith}
+use Rattle.std.proofs.Common.{◌≡◌, ◌-◌, ◌<◌, length, get_or, take, sym, ap, ◌∙◌, ⊎_elim, arith}
 use Rattle.std.proofs.lemmas.List.{get_or-take, get_or_default, length-take-le}
-use Rattle.std.proofs.lemmas.Bool.{cases_eq, false≢true}
-use Rattle.names.specs.declared.column.Column.{Column}
+use Rattle.std.proofs.lemmas.Bool.{cases_eq}
 use Rattle.names.specs.Columns.{column_of}
 use Rattle.names.proofs.Same.{parts_and_text_decide}
-use Rattle.schemas.specs.CheckNames.{SameAt}
 use Rattle.schemas.proofs.check_names.first_repeat.Goals as goal
 
 pub loop-i-init : goal.loop-i-init

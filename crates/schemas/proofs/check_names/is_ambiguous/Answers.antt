@@ -1,5 +1,4 @@
-use Rattle.std.proofs.Common.{◌≡◌, Bool, [], Decides, Option, sym, ap, ◌∙◌, subst}
-use Rattle.names.specs.declared.table_reference.TableReference.{TableReference}
+use Rattle.std.proofs.Common.{◌≡◌, Bool, [], Decides, sym, ap, ◌∙◌, subst}
 use Rattle.names.specs.Columns.{column_of, relation_parts}
 use Rattle.names.specs.Names.{text_of}
 use Rattle.names.specs.declared.column.Column.{Column}

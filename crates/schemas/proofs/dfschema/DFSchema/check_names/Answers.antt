@@ -1,4 +1,4 @@
-use Rattle.std.proofs.Common.{◌≡◌, List, ◌∙◌, subst}
+use Rattle.std.proofs.Common.{List, ◌∙◌, subst}
 use Rattle.names.specs.declared.column.Column.{Column}
 use Rattle.schemas.specs.CheckNames.{Answered, NamesAnswer}
 use Rattle.schemas.proofs.dfschema.DFSchema.check_names.Goals as goal

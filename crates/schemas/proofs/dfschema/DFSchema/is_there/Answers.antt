@@ -1,14 +1,11 @@
-use Rattle.std.proofs.Common.{◌≡◌, ◌<◌, Bool, not, List, map, length, is_some, Decides, sym, ap, ◌∙◌, subst, MatchOption}
-use Rattle.std.specs.List.{HoldsAt, AllWithin}
+use Rattle.std.proofs.Common.{◌≡◌, Bool, not, sym, ap, ◌∙◌}
 use Rattle.std.proofs.lemmas.Slice.Eq.{bytes_eq-Decides}
-use Rattle.std.proofs.lemmas.Bool.{false≢true}
 use Rattle.bounded.proofs.Tests.{all_pass_map}
 use Rattle.names.specs.declared.column.Column.{Column}
 use Rattle.names.specs.Columns.{column_of}
 use Rattle.names.specs.Names.{text_of}
 use Rattle.schemas.specs.Merges.{same_name, same_column, some_passes}
 use Rattle.schemas.specs.Schemas.{fields_of, column_in}
-use Rattle.schemas.specs.declared.dfschema.Field.{Field}
 use Rattle.schemas.proofs.There.{same_column_decides, found_is, there_some, there_none, searched, named}
 use Rattle.schemas.proofs.dfschema.DFSchema.is_there.Goals as goal
 

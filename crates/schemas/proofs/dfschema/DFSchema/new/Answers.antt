@@ -1,4 +1,4 @@
-use Rattle.std.proofs.Common.{◌≡◌, List, map, Some, None, subst, inr}
+use Rattle.std.proofs.Common.{List, map, Some, None, subst, inr}
 use Rattle.std.proofs.lemmas.Result.{err_from_is_err_and}
 use Rattle.schemas.specs.CheckNames.{NamesAnswer}
 use Rattle.schemas.specs.Schemas.{column_in}
