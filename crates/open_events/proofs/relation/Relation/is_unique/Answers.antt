@@ -1,4 +1,4 @@
-use Rattle.std.proofs.Common.{◌≡◌, Bool, not, map, get_or, sym, ap, ◌∙◌}
+use Rattle.std.proofs.Common.{Bool, not, sym, ap, ◌∙◌}
 use Rattle.std.specs.List.{list_all}
 use Rattle.std.proofs.lemmas.List.{take_all}
 use Rattle.bounded.proofs.Tests.{all_pass_more, all_pass_fails, all_pass_map}
