@@ -36,7 +36,7 @@ impl ColumnList {
         }
     }
 
-    /// AllByRecursion columns of a schema of that width, in order.
+    /// All columns of a schema of that width, in order.
     pub fn all(width: usize) -> Result<ColumnList, Refusal>
         ensures { Answers result (oversize_width width) (λ l. columns_of l ≡ range_with_len 0 width) }
     {
