@@ -1,8 +1,8 @@
-ghost use Rattle.std.specs.Prelude.{Some, refl};
+ghost use Rattle.std.specs.Prelude.{Some, refl, ◌≢◌};
 ghost use Rattle.std.specs.Cmp.{on_po, on_total};
 ghost use Rattle.std.specs.Cmp.Lexicographic.{nat_list_cmp_total, texts_po, texts_ties};
 ghost use Rattle.names.specs.Names.{text_of};
-ghost use Rattle.names.specs.Order.{by_bytes, in_order};
+ghost use Rattle.names.specs.Order.{ByNumber, ByBytes, InOrder, rank, by_bytes, in_order};
 ghost use Rattle.names.specs.OrderLaws.{in_order_total, in_order_partial, in_order_ties};
 
 use crate::name::Name;
@@ -29,7 +29,9 @@ impl Ord for Name {
 
     ghost matches_eq = { λ a b. texts_ties (text_of a) (text_of b) };
 
-    fn cmp(&self, other: &Name) -> Ordering {
+    fn cmp(&self, other: &Name) -> Ordering
+        ensures { ByBytes (text_of self.now) (text_of other.now) result }
+    {
         self.as_bytes().cmp(&other.as_bytes())
     }
 }
@@ -54,7 +56,10 @@ impl Ord for TableReference {
 
     ghost matches_eq = { in_order_ties };
 
-    fn cmp(&self, other: &TableReference) -> Ordering {
+    fn cmp(&self, other: &TableReference) -> Ordering
+        ensures in_order { InOrder self.now other.now result }
+        ensures forms_first { rank self.now ≢ rank other.now → ByNumber (rank self.now) (rank other.now) result }
+    {
         match (self, other) {
             (TableReference::Bare { table: a }, TableReference::Bare { table: b }) => a.cmp(b),
             (

@@ -4,7 +4,7 @@ use Rattle.schemas.proofs.check_names.compare.Goals as goal
 
 pub returns-in-Some-Some : goal.returns-in-Some-Some
 returns-in-Some-Some c =
-    c.then.ensures ∙ compared_some c.args.a.now c.args.b.now c.in-Some-Some.x c.in-Some-Some.y c.cmp.result c.cmp-names.result c.in-Some-Some.is-0 c.in-Some-Some.is-1 c.cmp.ensures c.cmp-names.ensures
+    c.then.ensures ∙ compared_some c.args.a.now c.args.b.now c.in-Some-Some.x c.in-Some-Some.y c.cmp.result c.cmp-names.result c.in-Some-Some.is-0 c.in-Some-Some.is-1 c.cmp.ensures.in_order c.cmp-names.ensures
 
 pub returns-in-None-None : goal.returns-in-None-None
 returns-in-None-None c =
