@@ -34,5 +34,5 @@ module _ {X Y : Type 0} {v : X → Y} {g : Y → Y} where
 
   pub over_all : {xs ys : List X} {i : ℕ} → Over v g xs ys i → length xs ≤ i → map v ys ≡ map g (map v xs)
   over_all {xs} {ys} {i} o h =
-      let n-map : length (map v xs) ≤ i = omega (arith, length-map xs v) in
-      o.seen ∙ ap (λ l. map g (take i (map v xs)) ++ l) (drop_all i (map v xs) n-map) ∙ append-nil _ ∙ ap (map g) (take_all i (map v xs) n-map)
+      let n_map : length (map v xs) ≤ i = omega (arith, length-map xs v) in
+      o.seen ∙ ap (λ l. map g (take i (map v xs)) ++ l) (drop_all i (map v xs) n_map) ∙ append-nil _ ∙ ap (map g) (take_all i (map v xs) n_map)

@@ -50,8 +50,8 @@ module _ (w : ℕ) (side : Table) (wide : Wide w side) where
 
   back_null : (d : Dep) (i : ℕ) (row nulls : Row) → i < length side → Nulls nulls → row ≡ row_at side i ++ nulls → NullFor (λ c. c + w) d row
   back_null d i row nulls h n e =
-      let null-at : (cs : List ℕ) → NullsAt (λ c. c + w) cs row = all_of (λ c. cell_at row (c + w) ≡ null) (λ c. back_cell (row_at side i) nulls row w c (row_wide i h) e ∙ nulls_at nulls c n) in
-      record { sources = null-at d.sources; targets = null-at d.targets }
+      let null_at : (cs : List ℕ) → NullsAt (λ c. c + w) cs row = all_of (λ c. cell_at row (c + w) ≡ null) (λ c. back_cell (row_at side i) nulls row w c (row_wide i h) e ∙ nulls_at nulls c n) in
+      record { sources = null_at d.sources; targets = null_at d.targets }
 
 right_alone_at : (w : ℕ) (d : Dep) (right : Table) (j : ℕ) (row nulls : Row) → j < length right → length nulls ≡ w → row ≡ nulls ++ row_at right j → ShowsAt (λ c. c + w) d right row j
 right_alone_at w d right j row nulls h long e =
@@ -60,8 +60,8 @@ right_alone_at w d right j row nulls h long e =
 
 front_null : (w : ℕ) (d : Dep) (row nulls behind : Row) → Within w d → Nulls nulls → length nulls ≡ w → row ≡ nulls ++ behind → NullFor (λ c. c) d row
 front_null w d row nulls behind v n long e =
-    let null-at : (cs : List ℕ) → AllByRecursion (λ c. c < w) cs → NullsAt (λ c. c) cs row = All-weaker (λ c. c < w) (λ c. cell_at row c ≡ null) (λ c hc. front_cell nulls behind row c (omega (arith, long)) e ∙ nulls_at nulls c n) in
-    record { sources = null-at d.sources v.sources; targets = null-at d.targets v.targets }
+    let null_at : (cs : List ℕ) → AllByRecursion (λ c. c < w) cs → NullsAt (λ c. c) cs row = All-weaker (λ c. c < w) (λ c. cell_at row c ≡ null) (λ c hc. front_cell nulls behind row c (omega (arith, long)) e ∙ nulls_at nulls c n) in
+    record { sources = null_at d.sources v.sources; targets = null_at d.targets v.targets }
 
 -- columns that stay where they are
 stays : (t : Table) (d : Dep) (n : Bool) (m : Dependency) → Keeps (carried (λ c. c) n m d) t → Keeps (dependence d.sources d.targets n m) t

@@ -1,8 +1,8 @@
-ghost use Rattle.std.specs.Prelude.{Some, refl, ◌≢◌};
+ghost use Rattle.std.specs.Prelude.{◌≡◌, Some, IsSomeAnd, refl};
 ghost use Rattle.std.specs.Cmp.{on_po, on_total};
 ghost use Rattle.std.specs.Cmp.Lexicographic.{nat_list_cmp_total, texts_po, texts_ties};
 ghost use Rattle.names.specs.Names.{text_of};
-ghost use Rattle.names.specs.Order.{ByNumber, ByBytes, InOrder, rank, by_bytes, in_order};
+ghost use Rattle.names.specs.Order.{ByBytes, InOrder, by_bytes, in_order};
 ghost use Rattle.names.specs.OrderLaws.{in_order_total, in_order_partial, in_order_ties};
 
 use crate::name::Name;
@@ -14,7 +14,10 @@ impl PartialOrd for Name {
 
     ghost laws = { on_po text_of texts_po };
 
-    fn partial_cmp(&self, other: &Name) -> Option<Ordering> {
+    fn partial_cmp(&self, other: &Name) -> Option<Ordering>
+        ensures tested { result ≡ Some (by_bytes (text_of self.now) (text_of other.now)) }
+        ensures ordered { IsSomeAnd result (ByBytes (text_of self.now) (text_of other.now)) }
+    {
         Some(self.cmp(other))
     }
 }
@@ -29,8 +32,10 @@ impl Ord for Name {
 
     ghost matches_eq = { λ a b. texts_ties (text_of a) (text_of b) };
 
+    #[tactic(auto, using(crate::proofs::Ordered::by_bytes_is))]
     fn cmp(&self, other: &Name) -> Ordering
-        ensures { ByBytes (text_of self.now) (text_of other.now) result }
+        ensures tested { result ≡ by_bytes (text_of self.now) (text_of other.now) }
+        ensures ordered { ByBytes (text_of self.now) (text_of other.now) result }
     {
         self.as_bytes().cmp(&other.as_bytes())
     }
@@ -41,7 +46,10 @@ impl PartialOrd for TableReference {
 
     ghost laws = { in_order_partial };
 
-    fn partial_cmp(&self, other: &TableReference) -> Option<Ordering> {
+    fn partial_cmp(&self, other: &TableReference) -> Option<Ordering>
+        ensures tested { result ≡ Some (in_order self.now other.now) }
+        ensures ordered { IsSomeAnd result (InOrder self.now other.now) }
+    {
         Some(self.cmp(other))
     }
 }
@@ -56,9 +64,10 @@ impl Ord for TableReference {
 
     ghost matches_eq = { in_order_ties };
 
+    #[tactic(auto, using(crate::proofs::Ordered::in_order_is))]
     fn cmp(&self, other: &TableReference) -> Ordering
-        ensures in_order { InOrder self.now other.now result }
-        ensures forms_first { rank self.now ≢ rank other.now → ByNumber (rank self.now) (rank other.now) result }
+        ensures tested { result ≡ in_order self.now other.now }
+        ensures ordered { InOrder self.now other.now result }
     {
         match (self, other) {
             (TableReference::Bare { table: a }, TableReference::Bare { table: b }) => a.cmp(b),

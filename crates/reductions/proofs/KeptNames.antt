@@ -96,7 +96,7 @@ module _ (texts names : List (List ℕ)) where
     pub kept_decide : KeptDecide texts ds names (first_places bytes_eq names (map (text_at texts) kept'))
     kept_decide t i j keeps hi hj agree =
         let P : ℕ → Type 0 = λ c. cell_at (row_at t i) c ≡ cell_at (row_at t j) c in
-        let kept-agree : AllByRecursion P kept' = subst (λ (cs : List ℕ). AllByRecursion P cs) (names_mean kept' kept_asked) agree in
+        let kept_agree : AllByRecursion P kept' = subst (λ (cs : List ℕ). AllByRecursion P cs) (names_mean kept' kept_asked) agree in
         let implies : AllByRecursion (λ d. AllByRecursion P d.sources → AllByRecursion P d.targets) ds = All-weaker (λ d. Keeps d t) (λ d. AllByRecursion P d.sources → AllByRecursion P d.targets) (λ d k. k.fixes i j hi hj) ds keeps in
         let within : Among asked (all_columns texts) = among_trans asked (meant texts names) (all_columns texts) (ordered_among (all_columns texts) (meant texts names)) meant_within in
-        ordered_all P (all_columns texts) (meant texts names) meant_within (reduced_all P (all_columns texts) asked ds within implies kept-agree)
+        ordered_all P (all_columns texts) (meant texts names) meant_within (reduced_all P (all_columns texts) asked ds within implies kept_agree)

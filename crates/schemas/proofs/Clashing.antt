@@ -45,10 +45,10 @@ module _ (ls rs : List Column) where
 
   pub no_clash : NamesAnswer all None → Clash ls rs → ⊥
   no_clash names (a, b, ha, hb, clash) =
-      let same-clash : column_of a ≡ column_of b → ⊥ = λ same. names.0 (length ls + hb.0) ha.0 (omega (arith, ha.1)) (omega (arith, hb.1, length-append ls rs)) (λ d. ap column_of (get_or_append_left ls rs d ha.0 ha.1 ∙ ha.2 d) ∙ same ∙ ap column_of (sym (get_or-append-add ls rs hb.0 d ∙ hb.2 d))) in
-      let in-a = has_append_left ls rs a ha in
+      let same_clash : column_of a ≡ column_of b → ⊥ = λ same. names.0 (length ls + hb.0) ha.0 (omega (arith, ha.1)) (omega (arith, hb.1, length-append ls rs)) (λ d. ap column_of (get_or_append_left ls rs d ha.0 ha.1 ∙ ha.2 d) ∙ same ∙ ap column_of (sym (get_or-append-add ls rs hb.0 d ∙ hb.2 d))) in
+      let in_a = has_append_left ls rs a ha in
       let in_b = has_append_right ls rs b hb in
-      ⊎_elim same-clash (⊎_elim (with_and_without all a b names.1 in-a in_b) (with_and_without all b a names.1 in_b in-a)) clash
+      ⊎_elim same_clash (⊎_elim (with_and_without all a b names.1 in_a in_b) (with_and_without all b a names.1 in_b in_a)) clash
 
   module _ (left : NamesAnswer ls None) (right : NamesAnswer rs None) where
     repeat_clashes : (i j : ℕ) → i < length all → j < i → SameAt all j i → Clash ls rs

@@ -8,7 +8,7 @@ use Rattle.names.specs.declared.table_reference.TableReference.{TableReference}
 use Rattle.names.specs.declared.table_reference.TableReference.TheVariants.{Bare, Partial, Full}
 use Rattle.names.specs.Columns.{column_of, relation_parts}
 use Rattle.names.specs.Names.{text_of}
-use Rattle.names.specs.Order.{ByBytes, InOrder}
+use Rattle.names.specs.Order.{by_bytes, in_order}
 use Rattle.names.specs.References.{parts_of}
 use Rattle.names.specs.declared.name.Name.{Name}
 use Rattle.schemas.specs.CheckNames.{Ambiguous}
@@ -32,10 +32,10 @@ module _ (a b : Column) where
   compared : (x y : Option TableReference) → a.relation ≡ x → b.relation ≡ y → of_relations x y ≡ compare_columns a b
   compared x y ex ey = λ i. of_relations (sym ex i) (sym ey i)
 
-  pub compared_some : (x y : TableReference) (o p : Ordering) → a.relation ≡ Some x → b.relation ≡ Some y → InOrder x y o → ByBytes (text_of a.name) (text_of b.name) p → ordering_then o p ≡ compare_columns a b
+  pub compared_some : (x y : TableReference) (o p : Ordering) → a.relation ≡ Some x → b.relation ≡ Some y → o ≡ in_order x y → p ≡ by_bytes (text_of a.name) (text_of b.name) → ordering_then o p ≡ compare_columns a b
   compared_some x y o p ex ey ho hp = (λ i. ordering_then (ho i) (hp i)) ∙ compared (Some x) (Some y) ex ey
 
-  pub compared_none : (p : Ordering) → a.relation ≡ None → b.relation ≡ None → ByBytes (text_of a.name) (text_of b.name) p → p ≡ compare_columns a b
+  pub compared_none : (p : Ordering) → a.relation ≡ None → b.relation ≡ None → p ≡ by_bytes (text_of a.name) (text_of b.name) → p ≡ compare_columns a b
   compared_none p ex ey hp = hp ∙ compared None None ex ey
 
 -- a column without a reference

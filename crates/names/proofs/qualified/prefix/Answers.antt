@@ -7,8 +7,8 @@ use Rattle.names.proofs.Pointed.{then_more}
 use Rattle.names.proofs.qualified.prefix.Goals as goal
 
 -- the prefix of a reference that is known
-of-known : {r s : TableReference} {out : List ℕ} → r ≡ s → out ≡ pointed (parts_of s) [] → out ≡ pointed (parts_of r) []
-of-known is e = e ∙ sym (ap (λ (r : TableReference). pointed (parts_of r) []) is)
+of_known : {r s : TableReference} {out : List ℕ} → r ≡ s → out ≡ pointed (parts_of s) [] → out ≡ pointed (parts_of r) []
+of_known is e = e ∙ sym (ap (λ (r : TableReference). pointed (parts_of r) []) is)
 
 pub returns-in-Partial : goal.returns-in-Partial
 returns-in-Partial c =
@@ -16,7 +16,7 @@ returns-in-Partial c =
     let t = text_of c.in-Partial.table in
     let one = then_more [] (s ++ 46 ∷ []) c.empty-out.ensures c.with-in-Partial.ensures.value in
     let two = then_more (s ∷ []) (t ++ 46 ∷ []) one c.with-in-Partial-2.ensures.value in
-    record { value = of-known c.in-Partial.is two; long = omega (arith, ap length c.empty-out.ensures) }
+    record { value = of_known c.in-Partial.is two; long = omega (arith, ap length c.empty-out.ensures) }
 
 pub returns-in-Full : goal.returns-in-Full
 returns-in-Full c =
@@ -26,4 +26,4 @@ returns-in-Full c =
     let one = then_more [] (k ++ 46 ∷ []) c.empty-out.ensures c.with-in-Full.ensures.value in
     let two = then_more (k ∷ []) (s ++ 46 ∷ []) one c.with-in-Full-2.ensures.value in
     let three = then_more (k ∷ s ∷ []) (t ++ 46 ∷ []) two c.with-in-Full-3.ensures.value in
-    record { value = of-known c.in-Full.is three; long = omega (arith, ap length c.empty-out.ensures, c.with-in-Full-3.ensures.long) }
+    record { value = of_known c.in-Full.is three; long = omega (arith, ap length c.empty-out.ensures, c.with-in-Full-3.ensures.long) }

@@ -4,8 +4,8 @@ use Rattle.schemas.proofs.check_names.compare.Goals as goal
 
 pub returns-in-Some-Some : goal.returns-in-Some-Some
 returns-in-Some-Some c =
-    c.then.ensures ∙ compared_some c.args.a.now c.args.b.now c.in-Some-Some.x c.in-Some-Some.y c.cmp.result c.cmp-names.result c.in-Some-Some.is-0 c.in-Some-Some.is-1 c.cmp.ensures.in_order c.cmp-names.ensures
+    c.then.ensures ∙ compared_some c.args.a.now c.args.b.now c.in-Some-Some.x c.in-Some-Some.y c.cmp.result c.cmp-names.result c.in-Some-Some.is-0 c.in-Some-Some.is-1 c.cmp.ensures.tested c.cmp-names.ensures.tested
 
 pub returns-in-None-None : goal.returns-in-None-None
 returns-in-None-None c =
-    compared_none c.args.a.now c.args.b.now c.cmp-names.result c.in-None-None.is-0 c.in-None-None.is-1 c.cmp-names.ensures
+    compared_none c.args.a.now c.args.b.now c.cmp-names.result c.in-None-None.is-0 c.in-None-None.is-1 c.cmp-names.ensures.tested
