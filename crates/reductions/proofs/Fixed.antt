@@ -1,5 +1,5 @@
 -- Rows that agree on known columns agree on what these determine.
-use Rattle.std.proofs.Common.{◌≡◌, ℕ, ◌<◌, Bool, true, false, not, ◌&&◌, ◌||◌, List, [], ◌∷◌, length, refl, ⊎_elim}
+use Rattle.std.proofs.Common.{◌≡◌, ℕ, ◌<◌, Bool, true, List, [], ◌∷◌, length, sym, ◌∙◌, ⊎_elim}
 use Rattle.std.specs.List.{AllByRecursion, list_all}
 use Rattle.std.proofs.ByRecursion.{All-weaker}
 use Rattle.std.proofs.lemmas.Bool.{false≢true, and_parts, or_cases}
@@ -7,18 +7,14 @@ use Rattle.columns.specs.Columns.{is_listed}
 use Rattle.dependencies.specs.Model.{Dep}
 use Rattle.dependencies.specs.Tables.{Table, cell_at, row_at, Keeps, KeepsAll}
 use Rattle.schemas.specs.Merges.{some_passes}
+use Rattle.schemas.proofs.Passing.{some_passes_more}
 use Rattle.reductions.specs.Determined.{determined_by, is_determined}
 use Rattle.reductions.proofs.Listed.{all_at, all_from_pass}
-
--- one that passes, or one later
-one_more : (b rest : Bool) → not (not b && rest) ≡ true → (b || not rest) ≡ true
-one_more true rest e = refl
-one_more false rest e = e
 
 -- what follows from each element that passes follows if one passes
 some_gives : {X : Type 0} (p : X → Bool) (R : Type 0) (xs : List X) → AllByRecursion (λ x. p x ≡ true → R) xs → some_passes p xs ≡ true → R
 some_gives p R [] h e = absurd (false≢true e)
-some_gives p R (x ∷ xs) h e = ⊎_elim h.0 (some_gives p R xs h.1) (or_cases (p x) (some_passes p xs) (one_more (p x) (list_all (λ y. not (p y)) xs) e))
+some_gives p R (x ∷ xs) h e = ⊎_elim h.0 (some_gives p R xs h.1) (or_cases (p x) (some_passes p xs) (sym (some_passes_more p x xs) ∙ e))
 
 module _ (known : ℕ → Bool) (ds : List Dep) (t : Table) (i j : ℕ) (keeps : KeepsAll ds t) (hi : i < length t) (hj : j < length t) where
   abbrev Same : ℕ → Type 0

@@ -1,13 +1,9 @@
 -- A loop that looks for an element that passes p, seen through a view v, and stops at the first.
-use Rattle.std.proofs.Common.{◌≡◌, ℕ, ◌+◌, ◌<◌, ◌≤◌, Bool, true, false, not, List, map, length, get_or, take, sym, refl, ap, ◌∙◌, arith}
+use Rattle.std.proofs.Common.{◌≡◌, ℕ, ◌+◌, ◌<◌, ◌≤◌, Bool, true, false, not, List, map, length, get_or, take, sym, ap, ◌∙◌, arith}
 use Rattle.std.specs.List.{list_all}
 use Rattle.std.proofs.lemmas.List.{get_or-map, length-map, take_all}
 use Rattle.bounded.proofs.Tests.{all_pass_more, all_pass_fails}
 use Rattle.schemas.specs.Merges.{some_passes}
-
--- one passes where not all fail
-some_is : {Y : Type 0} (p : Y → Bool) (ys : List Y) → some_passes p ys ≡ not (list_all (λ y. not (p y)) ys)
-some_is p ys = refl
 
 module _ {X Y : Type 0} (v : X → Y) (p : Y → Bool) (xs : List X) (i : ℕ) where
   -- none of the first i passes
@@ -19,10 +15,10 @@ module _ {X Y : Type 0} (v : X → Y) (p : Y → Bool) (xs : List X) (i : ℕ) w
     seen = get_or-map v xs i x (v x) inside ∙ ap v (sym here)
 
     pub passes_here : p (v x) ≡ true → some_passes p (map v xs) ≡ true
-    passes_here e = some_is p (map v xs) ∙ ap not (all_pass_fails (λ y. not (p y)) (map v xs) i (v x) (omega (arith, length-map xs v)) (ap (λ y. not (p y)) seen ∙ ap not e))
+    passes_here e = ap not (all_pass_fails (λ y. not (p y)) (map v xs) i (v x) (omega (arith, length-map xs v)) (ap (λ y. not (p y)) seen ∙ ap not e))
 
     pub none_more : NoneBefore → p (v x) ≡ false → list_all (λ y. not (p y)) (take (i + 1) (map v xs)) ≡ true
     none_more none e = all_pass_more (λ y. not (p y)) (map v xs) i (v x) (omega (arith, length-map xs v)) none (ap (λ y. not (p y)) seen ∙ ap not e)
 
   pub none_passes : NoneBefore → length xs ≤ i → some_passes p (map v xs) ≡ false
-  none_passes none h = some_is p (map v xs) ∙ ap not (ap (list_all (λ y. not (p y))) (sym (take_all i (map v xs) (omega (arith, length-map xs v)))) ∙ none)
+  none_passes none h = ap not (ap (list_all (λ y. not (p y))) (sym (take_all i (map v xs) (omega (arith, length-map xs v)))) ∙ none)

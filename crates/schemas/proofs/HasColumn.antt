@@ -1,8 +1,8 @@
 -- The tests of columns decide whether they are equal, and a search whether one is there.
-use Rattle.std.proofs.Common.{◌≡◌, ℕ, ◌<◌, Bool, true, false, not, ◌&&◌, ◌||◌, List, [], ◌∷◌, length, is_some, Some, None, Decides, Option, refl, ap, ◌∙◌, arith, MatchOption}
-use Rattle.std.specs.List.{HoldsAt, AllWithin, list_all}
+use Rattle.std.proofs.Common.{◌≡◌, ℕ, ◌<◌, Bool, List, [], ◌∷◌, length, is_some, Some, None, Decides, Option, refl, ap, ◌∙◌, arith, MatchOption}
+use Rattle.std.specs.List.{HoldsAt, AllWithin}
 use Rattle.std.proofs.lemmas.Slice.Eq.{bytes_eq-Decides}
-use Rattle.std.proofs.lemmas.Bool.{and_parts, and_from, false≢true}
+use Rattle.std.proofs.lemmas.Bool.{false≢true}
 use Rattle.std.proofs.lemmas.Bool.Decides.{same_from_decides, Decides-and, Decides-like, Decides-by_or}
 use Rattle.names.specs.declared.column.Column.{Column}
 use Rattle.names.specs.Columns.{column_of, relation_parts}
@@ -13,25 +13,8 @@ use Rattle.schemas.specs.declared.dfschema.Field.{Field}
 use Rattle.names.specs.declared.name.Name.{Name}
 use Rattle.schemas.specs.Lookups.{has_name, has_qualified_name, has_column}
 use Rattle.schemas.specs.Merges.{same_parts, some_passes}
-
-head_is : (p q : List ℕ) (ps qs : List (List ℕ)) → p ∷ ps ≡ q ∷ qs → p ≡ q
-head_is p q ps qs e = cc
-
-tail_is : (p q : List ℕ) (ps qs : List (List ℕ)) → p ∷ ps ≡ q ∷ qs → ps ≡ qs
-tail_is p q ps qs e = cc
-
-pub same_parts_decides : (ps qs : List (List ℕ)) → Decides (same_parts ps qs) (ps ≡ qs)
-same_parts_decides [] [] = ((λ _. refl), λ _. refl)
-same_parts_decides [] (q ∷ qs) = ((λ e. absurd (false≢true e)), λ e. absurd (let z : ◌≡◌ {A = ℕ} 0 1 = cc in omega arith))
-same_parts_decides (p ∷ ps) [] = ((λ e. absurd (false≢true e)), λ e. absurd (let z : ◌≡◌ {A = ℕ} 0 1 = cc in omega arith))
-same_parts_decides (p ∷ ps) (q ∷ qs) =
-    let first = bytes_eq-Decides p q in
-    let rest = same_parts_decides ps qs in (
-      λ e.
-          let parts = and_parts _ (same_parts ps qs) e in
-          ap (λ h. h ∷ ps) (first.0 parts.0) ∙ ap (λ t. q ∷ t) (rest.0 parts.1),
-      λ e. and_from _ _ (first.1 (head_is p q ps qs e)) (rest.1 (tail_is p q ps qs e)),
-    )
+use Rattle.schemas.proofs.Passing.{some_passes_more}
+use Rattle.schemas.proofs.There.{same_parts_decides}
 
 pub has_name_decides : (n : Name) (f : Field) → Decides (has_name n f) (text_of f.column.name ≡ text_of n)
 has_name_decides n f = bytes_eq-Decides (text_of f.column.name) (text_of n)
@@ -42,11 +25,6 @@ has_qualified_name_decides q n f =
     Decides-like (has_qualified_name q n f) (λ e. ap (λ (x : List (List ℕ)). (x, text_of f.column.name)) e.0 ∙ ap (λ (x : List ℕ). (parts_of q, x)) e.1)
     (λ e. (ap (λ (x : List (List ℕ) × List ℕ). x.0) e, ap (λ (x : List (List ℕ) × List ℕ). x.1) e)) (Decides-and (same_parts parts (parts_of q)) (has_name n f) (same_parts_decides parts (parts_of q)) (has_name_decides n f))
 
--- one that passes, or one later
-one_more : (b rest : Bool) → not (not b && rest) ≡ (b || not rest)
-one_more true rest = refl
-one_more false rest = refl
-
 -- what a search for the first of which P holds tells of them all
 module _ {X : Type 0} (P : X → Type 0) where
   pub search_tells : (xs : List X) (r : Option ℕ) → MatchOption r (AllWithin (λ x. P x → ⊥) xs 0 (length xs)) (λ i. (i < length xs) × HoldsAt P xs i × AllWithin (λ x. P x → ⊥) xs 0 i) → Decides (is_some r) ((k : ℕ) × (k < length xs) × HoldsAt P xs k)
@@ -56,7 +34,7 @@ module _ {X : Type 0} (P : X → Type 0) where
 
   pub found_is : (p : X → Bool) → ((x : X) → Decides (p x) (P x)) → (xs : List X) (r : Option ℕ) → MatchOption r (AllWithin (λ x. P x → ⊥) xs 0 (length xs)) (λ i. (i < length xs) × HoldsAt P xs i × AllWithin (λ x. P x → ⊥) xs 0 i) → is_some r ≡ some_passes p xs
   found_is p each xs r h =
-      same_from_decides (is_some r) (some_passes p xs) (search_tells xs r h) (Decides-by_or p P (some_passes p) each refl (λ x xs. one_more (p x) (list_all (λ y. not (p y)) xs)) xs)
+      same_from_decides (is_some r) (some_passes p xs) (search_tells xs r h) (Decides-by_or p P (some_passes p) each refl (some_passes_more p) xs)
 
 module _ (fs : List Field) (c : Column) where
   abbrev By : Option TableReference → Bool

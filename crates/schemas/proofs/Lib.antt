@@ -3,3 +3,4 @@ mod Found
 mod HasColumn
 mod Least
 mod There
+pub mod Passing

@@ -1,9 +1,11 @@
 -- The tests of columns decide whether they are equal.
-use Rattle.std.proofs.Common.{◌≡◌, ℕ, suc, ◌<◌, Bool, true, false, not, List, [], ◌∷◌, length, get_or, is_some, Some, None, Decides, Option, sym, refl, ap, ◌∙◌, arith, MatchOption}
+use Rattle.std.proofs.Common.{◌≡◌, ℕ, suc, ◌<◌, Bool, true, false, not, ◌&&◌, List, [], ◌∷◌, length, get_or, is_some, Some, None, Decides, Option, sym, refl, ap, ◌∙◌, arith, MatchOption}
 use Rattle.std.specs.List.{HoldsAt, AllWithin, list_all}
 use Rattle.std.specs.Str.{bytes_eq}
+use Rattle.std.specs.Cmp.Lexicographic.{pointwise, pointwise_decides, bytes_decides}
+use Rattle.std.proofs.lemmas.Bool.Decides.{Decides-at}
 use Rattle.std.proofs.lemmas.Slice.Eq.{bytes_eq-Decides}
-use Rattle.std.proofs.lemmas.Bool.{and_parts, and_from, false≢true}
+use Rattle.std.proofs.lemmas.Bool.{and_parts, and_from}
 use Rattle.bounded.proofs.Tests.{all_pass_fails}
 use Rattle.names.specs.declared.column.Column.{Column}
 use Rattle.names.specs.Columns.{column_of, relation_parts}
@@ -17,24 +19,15 @@ use Rattle.names.proofs.Same.{parts_and_text_decide}
 use Rattle.schemas.specs.Lookups.{Means}
 use Rattle.schemas.specs.Merges.{same_parts, same_name, same_column, some_passes, is_there}
 
-head_is : (p q : List ℕ) (ps qs : List (List ℕ)) → p ∷ ps ≡ q ∷ qs → p ≡ q
-head_is p q ps qs e = cc
-
-tail_is : (p q : List ℕ) (ps qs : List (List ℕ)) → p ∷ ps ≡ q ∷ qs → ps ≡ qs
-tail_is p q ps qs e = cc
+-- the test of parts is the library's test of lists
+same_parts_is : (ps qs : List (List ℕ)) → same_parts ps qs ≡ pointwise bytes_eq ps qs
+same_parts_is [] [] = refl
+same_parts_is [] (q ∷ qs) = refl
+same_parts_is (p ∷ ps) [] = refl
+same_parts_is (p ∷ ps) (q ∷ qs) = ap (λ b. bytes_eq p q && b) (same_parts_is ps qs)
 
 pub same_parts_decides : (ps qs : List (List ℕ)) → Decides (same_parts ps qs) (ps ≡ qs)
-same_parts_decides [] [] = ((λ _. refl), λ _. refl)
-same_parts_decides [] (q ∷ qs) = ((λ e. absurd (false≢true e)), λ e. absurd (let z : ◌≡◌ {A = ℕ} 0 1 = cc in omega arith))
-same_parts_decides (p ∷ ps) [] = ((λ e. absurd (false≢true e)), λ e. absurd (let z : ◌≡◌ {A = ℕ} 0 1 = cc in omega arith))
-same_parts_decides (p ∷ ps) (q ∷ qs) =
-    let first = bytes_eq-Decides p q in
-    let rest = same_parts_decides ps qs in (
-      λ e.
-          let parts = and_parts (bytes_eq p q) (same_parts ps qs) e in
-          ap (λ h. h ∷ ps) (first.0 parts.0) ∙ ap (λ t. q ∷ t) (rest.0 parts.1),
-      λ e. and_from _ _ (first.1 (head_is p q ps qs e)) (rest.1 (tail_is p q ps qs e)),
-    )
+same_parts_decides ps qs = Decides-at (same_parts ps qs) (pointwise bytes_eq ps qs) (same_parts_is ps qs) (pointwise_decides bytes_decides ps qs)
 
 pub same_column_decides : (a b : Column) → Decides (same_column a b) (column_of a ≡ column_of b)
 same_column_decides a b =
