@@ -44,13 +44,10 @@ impl<T: Copy, const N: usize> Bounded<T, N> {
     pub fn get(&self, i: usize) -> Option<T>
         ensures { MatchOption result (length (list_of self.now) ≤ i) (λ x. (i < length (list_of self.now)) × HoldsAt (λ y. y ≡ x) (list_of self.now) i) }
     {
-        if i < self.len {
-            Some(self.items[i])
-        } else {
-            None
-        }
+        self.as_slice().get(i).copied()
     }
 
+    // a `bool`, with no value beside it: whether there is such a place
     /// Stores `x` at `i`; past the end it answers false and stores nothing.
     pub fn set(&mut self, i: usize, x: T) -> bool
         ensures told { result ≡ nat_lt i (length (list_of self.old)) }
@@ -96,9 +93,7 @@ impl<T: Copy, const N: usize> Bounded<T, N> {
             return Err(Full);
         }
         for x in xs {
-            let n = self.len;
-            self.items[n] = *x;
-            self.len = n + 1;
+            self.push(*x)?;
         }
         Ok(())
     }
