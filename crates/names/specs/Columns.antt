@@ -1,9 +1,8 @@
 -- Columns and their full names.
 use Rattle.std.specs.Prelude.{ℕ, List, [], ◌∷◌, ◌++◌, Some, None, Option}
 use Rattle.names.specs.declared.column.Column.{Column}
-use Rattle.names.specs.declared.name.Name.{Name}
 use Rattle.names.specs.declared.table_reference.TableReference.{TableReference}
-use Rattle.names.specs.Names.{text_of}
+use Rattle.names.specs.Names.{Name, text_of}
 use Rattle.names.specs.References.{parts_of}
 
 -- the parts of the reference; a reference has at least one

@@ -1,9 +1,11 @@
+pub mod CmpLaws
 pub mod Columns
 pub mod FirstPlaces
 pub mod Named
 pub mod Names
 pub mod Order
 pub mod OrderLaws
+pub mod PartialLaw
 pub mod References
 pub mod Refusals
 pub mod Same

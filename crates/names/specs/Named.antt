@@ -8,7 +8,7 @@ use Rattle.names.specs.declared.error.Refusal.TheVariants.{Standing, Oversize, O
 use Rattle.names.specs.declared.error.SchemaError.{SchemaError}
 use Rattle.names.specs.declared.error.SchemaError.TheVariants.{DuplicateQualifiedField, DuplicateUnqualifiedField, AmbiguousReference, FieldNotFound}
 use Rattle.names.specs.Columns.{column_of}
-use Rattle.names.specs.Names.{text_of, full_text_of}
+use Rattle.names.specs.Names.{text_of}
 use Rattle.names.specs.References.{parts_of}
 use Rattle.names.specs.Refusals.{number_of, schema_number}
 
@@ -19,7 +19,7 @@ pub data Named : Type 0 where
 
 abbrev pub missing_of : MissingField → Named
 missing_of (Column c) = by_parts (column_of c)
-missing_of (FullName n) = by_text (full_text_of n)
+missing_of (FullName n) = by_text (text_of n)
 
 -- the column that a schema error names
 abbrev pub named_of : SchemaError → Named

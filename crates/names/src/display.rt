@@ -1,6 +1,6 @@
 use crate::column::Column;
 use crate::error::{MissingField, Refusal, SchemaError};
-use crate::name::{FullName, Name};
+use crate::name::Text;
 use crate::table_reference::TableReference;
 use std::error::Error;
 use std::fmt;
@@ -17,13 +17,7 @@ fn escaped<W: fmt::Write>(text: &[u8], f: &mut fmt::Formatter<W>) -> fmt::Result
     Ok(())
 }
 
-impl fmt::Display for Name {
-    fn fmt<W: fmt::Write>(&self, f: &mut fmt::Formatter<W>) -> fmt::Result {
-        escaped(self.as_bytes(), f)
-    }
-}
-
-impl fmt::Display for FullName {
+impl<const N: usize> fmt::Display for Text<N> {
     fn fmt<W: fmt::Write>(&self, f: &mut fmt::Formatter<W>) -> fmt::Result {
         escaped(self.as_bytes(), f)
     }
@@ -103,44 +97,8 @@ impl fmt::Display for Refusal {
     }
 }
 
-// `{:?}` writes the same text.
-impl fmt::Debug for Name {
-    fn fmt<W: fmt::Write>(&self, f: &mut fmt::Formatter<W>) -> fmt::Result {
-        write!(f, "{self}")
-    }
-}
-
-impl fmt::Debug for FullName {
-    fn fmt<W: fmt::Write>(&self, f: &mut fmt::Formatter<W>) -> fmt::Result {
-        write!(f, "{self}")
-    }
-}
-
-impl fmt::Debug for TableReference {
-    fn fmt<W: fmt::Write>(&self, f: &mut fmt::Formatter<W>) -> fmt::Result {
-        write!(f, "{self}")
-    }
-}
-
-impl fmt::Debug for Column {
-    fn fmt<W: fmt::Write>(&self, f: &mut fmt::Formatter<W>) -> fmt::Result {
-        write!(f, "{self}")
-    }
-}
-
-impl fmt::Debug for MissingField {
-    fn fmt<W: fmt::Write>(&self, f: &mut fmt::Formatter<W>) -> fmt::Result {
-        write!(f, "{self}")
-    }
-}
-
-impl fmt::Debug for SchemaError {
-    fn fmt<W: fmt::Write>(&self, f: &mut fmt::Formatter<W>) -> fmt::Result {
-        write!(f, "{self}")
-    }
-}
-
-impl fmt::Debug for Refusal {
+// Not derived: `{:?}` writes the text, as `{}` does.
+impl<const N: usize> fmt::Debug for Text<N> {
     fn fmt<W: fmt::Write>(&self, f: &mut fmt::Formatter<W>) -> fmt::Result {
         write!(f, "{self}")
     }

@@ -1,23 +1,22 @@
-ghost use Rattle.std.specs.Prelude.{◌≡◌, Decides};
-ghost use Rattle.names.specs.Named.{missing_of, schema_of, schema_error_of, refusal_of};
+ghost use Rattle.std.specs.Prelude.{◌≡◌};
+ghost use Rattle.names.specs.declared.error.Refusal.TheVariants.{Oversize, Schema};
+ghost use Rattle.names.specs.Named.{schema_error_of};
 ghost use Rattle.names.specs.Refusals.{number_of, word_of, schema_number, schema_word};
-ghost use Rattle.names.specs.Same.{same_named, same_schema_error, same_refusal};
-ghost use Rattle.names.specs.SameLaws.{same_named_equiv, same_schema_error_equiv, same_refusal_equiv};
-ghost use Rattle.std.specs.Cmp.{on_equiv, partial_equiv_from_equiv};
 
 use crate::column::Column;
 use crate::name::{FullName, Name};
 use crate::table_reference::TableReference;
+use bounded::ops::Full;
 
 /// What was looked for and not found: a column, or a full name as it was given.
-#[derive(Clone, Copy)]
+#[derive(Clone, Copy, PartialEq, Eq, Debug)]
 pub enum MissingField {
     Column(Column),
     FullName(FullName),
 }
 
 /// What is wrong with the names of a schema, with the column that shows it.
-#[derive(Clone, Copy)]
+#[derive(Clone, Copy, PartialEq, Eq, Debug)]
 pub enum SchemaError {
     AmbiguousReference {
         field: Column,
@@ -35,7 +34,7 @@ pub enum SchemaError {
 }
 
 /// Why a call is refused. The schema errors are the refusals 5 to 8.
-#[derive(Clone, Copy)]
+#[derive(Clone, Copy, PartialEq, Eq, Debug)]
 pub enum Refusal {
     Standing,
     Oversize,
@@ -53,6 +52,7 @@ pub enum Refusal {
 }
 
 impl SchemaError {
+    // a number, since the rules publish one for each case
     /// The number by which the refusal is known.
     pub fn number(&self) -> u8
         ensures { result ≡ schema_number self.now }
@@ -79,6 +79,7 @@ impl SchemaError {
 }
 
 impl Refusal {
+    // a number, since the rules publish one for each case
     /// The number by which the refusal is known, 1 to 16.
     pub fn number(&self) -> u8
         ensures { result ≡ number_of self.now }
@@ -132,79 +133,18 @@ impl Refusal {
     }
 }
 
-impl PartialEq for MissingField {
-    ghost eq = { λ a b. same_named (missing_of a) (missing_of b) };
+impl From<Full> for Refusal {
+    ghost from_gives = { λ _ refusal. refusal ≡ Oversize };
 
-    ghost laws = { partial_equiv_from_equiv (on_equiv missing_of same_named_equiv) };
-
-    fn eq(&self, other: &MissingField) -> bool
-        ensures tested { result ≡ same_named (missing_of self.now) (missing_of other.now) }
-        ensures decides { Decides result (missing_of self.now ≡ missing_of other.now) }
-    {
-        match (self, other) {
-            (MissingField::Column(a), MissingField::Column(b)) => *a == *b,
-            (MissingField::FullName(a), MissingField::FullName(b)) => *a == *b,
-            _ => false,
-        }
+    fn from(_: Full) -> Self {
+        Self::Oversize
     }
 }
 
-impl Eq for MissingField {
-    ghost laws = { on_equiv missing_of same_named_equiv };
-}
+impl From<SchemaError> for Refusal {
+    ghost from_gives = { λ error refusal. refusal ≡ Schema error };
 
-impl PartialEq for SchemaError {
-    ghost eq = { λ a b. same_schema_error (schema_of a) (schema_of b) };
-
-    ghost laws = { partial_equiv_from_equiv (on_equiv schema_of same_schema_error_equiv) };
-
-    fn eq(&self, other: &SchemaError) -> bool
-        ensures tested { result ≡ same_schema_error (schema_of self.now) (schema_of other.now) }
-        ensures decides { Decides result (schema_of self.now ≡ schema_of other.now) }
-    {
-        match (self, other) {
-            (
-                SchemaError::AmbiguousReference { field: a },
-                SchemaError::AmbiguousReference { field: b },
-            ) => *a == *b,
-            (
-                SchemaError::DuplicateQualifiedField {
-                    qualifier: q,
-                    name: a,
-                },
-                SchemaError::DuplicateQualifiedField {
-                    qualifier: p,
-                    name: b,
-                },
-            ) => *q == *p && *a == *b,
-            (
-                SchemaError::DuplicateUnqualifiedField { name: a },
-                SchemaError::DuplicateUnqualifiedField { name: b },
-            ) => *a == *b,
-            (SchemaError::FieldNotFound { field: a }, SchemaError::FieldNotFound { field: b }) => *a
-                == *b,
-            _ => false,
-        }
+    fn from(error: SchemaError) -> Self {
+        Self::Schema(error)
     }
-}
-
-impl Eq for SchemaError {
-    ghost laws = { on_equiv schema_of same_schema_error_equiv };
-}
-
-impl PartialEq for Refusal {
-    ghost eq = { λ a b. same_refusal (refusal_of a) (refusal_of b) };
-
-    ghost laws = { partial_equiv_from_equiv (on_equiv refusal_of same_refusal_equiv) };
-
-    fn eq(&self, other: &Refusal) -> bool
-        ensures tested { result ≡ same_refusal (refusal_of self.now) (refusal_of other.now) }
-        ensures decides { Decides result (refusal_of self.now ≡ refusal_of other.now) }
-    {
-        self.number() == other.number() && self.schema_error() == other.schema_error()
-    }
-}
-
-impl Eq for Refusal {
-    ghost laws = { on_equiv refusal_of same_refusal_equiv };
 }

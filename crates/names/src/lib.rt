@@ -5,6 +5,7 @@ pub mod display;
 pub mod error;
 pub mod first;
 pub mod name;
-pub mod order;
 pub mod qualified;
+pub mod stands_for;
+pub mod stands_in_order;
 pub mod table_reference;

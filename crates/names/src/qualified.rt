@@ -1,7 +1,7 @@
 ghost use Rattle.std.specs.Prelude.{◌≡◌, ◌+◌, ◌≤◌, [], ◌∷◌, ◌++◌, length};
 ghost use Rattle.std.specs.Option.{option_map};
 ghost use Rattle.names.specs.Columns.{full_text, pointed};
-ghost use Rattle.names.specs.Names.{text_of, full_text_of};
+ghost use Rattle.names.specs.Names.{text_of};
 ghost use Rattle.names.specs.References.{parts_of};
 
 use crate::name::{FullName, Name};
@@ -10,18 +10,18 @@ use bounded::list::Bounded;
 
 impl FullName {
     fn ended(mut self, part: &Name) -> FullName
-        requires { length (full_text_of self) ≤ 99 }
-        ensures value { full_text_of result ≡ full_text_of self ++ text_of part.now }
-        ensures long { length (full_text_of result) ≤ length (full_text_of self) + 32 }
+        requires { length (text_of self) ≤ 99 }
+        ensures value { text_of result ≡ text_of self ++ text_of part.now }
+        ensures long { length (text_of result) ≤ length (text_of self) + 32 }
     {
         let _ = self.bytes.extend_from_slice(part.as_bytes());
         self
     }
 
     fn with(self, part: &Name) -> FullName
-        requires { length (full_text_of self) ≤ 98 }
-        ensures value { full_text_of result ≡ full_text_of self ++ (text_of part.now ++ 46 ∷ []) }
-        ensures long { length (full_text_of result) ≤ length (full_text_of self) + 33 }
+        requires { length (text_of self) ≤ 98 }
+        ensures value { text_of result ≡ text_of self ++ (text_of part.now ++ 46 ∷ []) }
+        ensures long { length (text_of result) ≤ length (text_of self) + 33 }
     {
         let mut out = self.ended(part);
         let _ = out.bytes.push(b'.');
@@ -30,8 +30,8 @@ impl FullName {
 }
 
 fn prefix(reference: &TableReference) -> FullName
-    ensures value { full_text_of result ≡ pointed (parts_of reference.now) [] }
-    ensures long { length (full_text_of result) ≤ 99 }
+    ensures value { text_of result ≡ pointed (parts_of reference.now) [] }
+    ensures long { length (text_of result) ≤ 99 }
 {
     let out = FullName::empty();
     match reference {
@@ -47,7 +47,7 @@ fn prefix(reference: &TableReference) -> FullName
 
 /// The parts of the reference and the name, joined by points.
 pub fn qualified_name(relation: Option<&TableReference>, name: &Name) -> FullName
-    ensures { full_text_of result ≡ full_text (option_map (λ x. x.now) relation.entry) name.now }
+    ensures { text_of result ≡ full_text (option_map (λ x. x.now) relation.entry) name.now }
 {
     match relation {
         Some(reference) => prefix(reference).ended(name),

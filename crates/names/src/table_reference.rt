@@ -3,15 +3,12 @@ ghost use Rattle.std.specs.Option.{option_map};
 ghost use Rattle.bounded.specs.View.{list_of};
 ghost use Rattle.names.specs.Names.{text_of};
 ghost use Rattle.names.specs.References.{table_part, schema_part, catalog_part, parts_of, Compatible, Resolved};
-ghost use Rattle.names.specs.Same.{same_texts};
-ghost use Rattle.names.specs.SameLaws.{same_texts_equiv};
-ghost use Rattle.std.specs.Cmp.{on_equiv, partial_equiv_from_equiv};
 
 use crate::name::Name;
 use bounded::list::Bounded;
 
 /// A table as a query names it.
-#[derive(Clone, Copy)]
+#[derive(Clone, Copy, PartialEq, Eq, PartialOrd, Ord, Debug)]
 pub enum TableReference {
     Bare {
         table: Name,
@@ -123,46 +120,4 @@ fn compatible(a: Option<&Name>, b: Option<&Name>) -> bool
         (Some(x), Some(y)) => *x == *y,
         _ => true,
     }
-}
-
-impl PartialEq for TableReference {
-    ghost eq = { λ a b. same_texts (parts_of a) (parts_of b) };
-
-    ghost laws = { partial_equiv_from_equiv (on_equiv parts_of same_texts_equiv) };
-
-    fn eq(&self, other: &TableReference) -> bool
-        ensures tested { result ≡ same_texts (parts_of self.now) (parts_of other.now) }
-        ensures decides { Decides result (parts_of self.now ≡ parts_of other.now) }
-    {
-        match (self, other) {
-            (TableReference::Bare { table: a }, TableReference::Bare { table: b }) => *a == *b,
-            (
-                TableReference::Partial {
-                    schema: s,
-                    table: a,
-                },
-                TableReference::Partial {
-                    schema: t,
-                    table: b,
-                },
-            ) => *s == *t && *a == *b,
-            (
-                TableReference::Full {
-                    catalog: k,
-                    schema: s,
-                    table: a,
-                },
-                TableReference::Full {
-                    catalog: l,
-                    schema: t,
-                    table: b,
-                },
-            ) => *k == *l && *s == *t && *a == *b,
-            _ => false,
-        }
-    }
-}
-
-impl Eq for TableReference {
-    ghost laws = { on_equiv parts_of same_texts_equiv };
 }
