@@ -1,10 +1,10 @@
 -- Lists of column numbers, and when one is too long or lifted too far.
-use Rattle.std.specs.Prelude.{ℕ, suc, ◌+◌, Bool, cond, not, List, [], ◌∷◌, map, length, is_some, Some, None, Option, ◌==◌, nat_lt}
-use Rattle.std.specs.List.{flat_map, list_all}
-use Rattle.std.specs.Option.{option_map, option_to_list as optional}
+use Rattle.std.specs.Prelude.{ℕ, ◌+◌, Bool, not, List, map, length, is_some, None, Option, ◌==◌, nat_lt}
+use Rattle.std.specs.List.{list_all}
 use Rattle.bounded.specs.View.{list_of}
 use Rattle.names.specs.declared.error.Refusal.{Refusal}
 use Rattle.names.specs.declared.error.Refusal.TheVariants.{Oversize, Overrun}
+use Rattle.names.specs.FirstPlaces.{first_where, first_places}
 use Rattle.names.specs.Refusals.{refused_if}
 use Rattle.columns.specs.declared.column_list.ColumnList.{ColumnList}
 
@@ -36,12 +36,11 @@ overrun_at k cs = refused_if (not (list_all (fits k) cs)) Overrun None
 
 -- the least position at which a column is listed
 abbrev pub first_place : List ℕ → ℕ → Option ℕ
-first_place [] c = None
-first_place (x ∷ xs) c = cond (x == c) (Some 0) (option_map suc (first_place xs c))
+first_place xs c = first_where (λ x. x == c) xs
 
 -- the first positions of those columns that are listed
 abbrev pub places : List ℕ → List ℕ → List ℕ
-places xs cs = flat_map (λ c. optional (first_place xs c)) cs
+places xs cs = first_places (λ x c. x == c) xs cs
 
 abbrev pub is_listed : List ℕ → ℕ → Bool
 is_listed xs c = is_some (first_place xs c)

@@ -1,23 +1,37 @@
-ghost use Rattle.std.specs.Prelude.{◌≡◌, ◌<◌, ◌≤◌, [], ◌∷◌, ◌++◌, length, Decides, MatchOption, ◌==◌, ◌≢◌, slice_index, nat_eq};
+ghost use Rattle.std.specs.Prelude.{◌≡◌, ℕ, List, refl, ◌+◌, ◌<◌, ◌≤◌, [], ◌∷◌, ◌++◌, length, Decides, true, false, MatchOption, MatchResult, ◌==◌, ◌≢◌, slice_index, nat_eq};
 ghost use Rattle.std.specs.List.{range_with_len, AllWithin, list_all, AllByRecursion};
 ghost use Rattle.names.specs.Refusals.{Answers, AnswersOr, oversize_over};
-ghost use Rattle.columns.specs.Columns.{columns_of, oversize_width, full_at, oversize_together, overrun_at, places, is_listed, shifted};
-ghost use Rattle.std.specs.Cmp.{on_equiv, partial_equiv_from_equiv};
+ghost use Rattle.names.specs.declared.error.Refusal.TheVariants.{Overrun};
+ghost use Rattle.columns.specs.Columns.{fits, columns_of, oversize_width, full_at, oversize_together, overrun_at, places, is_listed, shifted};
+ghost use Rattle.std.proofs.Common.{rules};
 ghost use Rattle.std.specs.Cmp.Lexicographic.{pointwise, nat_list_eq_equiv};
 
 use bounded::list::Bounded;
 use names::error::Refusal;
 use names::first::first_position;
+use names::stands_for::StandsFor;
 
 /// The most columns of a schema, and the most entries of a list of column numbers.
 pub const MAX_COLUMNS: usize = 64;
 
 /// A list of at most 64 column numbers.
-#[derive(Clone, Copy)]
+#[derive(Clone, Copy, PartialEq, Eq)]
 pub struct ColumnList {
     pub(crate) columns: Bounded<u16, MAX_COLUMNS>,
 }
 
+// the column number with the offset added
+fn moved(column: u16, offset: usize) -> Result<u16, Refusal>
+    ensures { MatchResult result (λ c. (c ≡ column + offset) × (fits offset column ≡ true)) (λ e. (e ≡ Overrun) × (fits offset column ≡ false)) }
+{
+    usize::from(column)
+        .checked_add(offset)
+        .and_then(|sum| u16::try_from(sum).ok())
+        .ok_or(Refusal::Overrun)
+}
+
+// What the lists of columns, keys and dependencies have alike is in `Bounded`: these calls of it stand in each list's own
+// crate, since inherent methods have to, and each has a size and a view of its own.
 impl ColumnList {
     pub fn empty() -> ColumnList
         ensures { columns_of result ≡ [] }
@@ -30,10 +44,9 @@ impl ColumnList {
     pub fn new(columns: &[u16]) -> Result<ColumnList, Refusal>
         ensures { Answers result (oversize_over 64 columns.now) (λ l. columns_of l ≡ columns.now) }
     {
-        match Bounded::from_slice(0, columns) {
-            Ok(columns) => Ok(ColumnList { columns }),
-            Err(_) => Err(Refusal::Oversize),
-        }
+        Ok(ColumnList {
+            columns: Bounded::from_slice(0, columns)?,
+        })
     }
 
     /// All columns of a schema of that width, in order.
@@ -44,6 +57,7 @@ impl ColumnList {
             return Err(Refusal::Oversize);
         }
         let mut columns = Bounded::new(0);
+        // a loop: no chain of iterators collects into a list of fixed size
         for column in 0..width {
             // there is room: at most 64 are pushed
             let _ = columns.push(column as u16);
@@ -89,12 +103,9 @@ impl ColumnList {
     pub fn all_below(&self, width: usize) -> bool
         ensures { Decides result (AllByRecursion (λ c. c < width) (columns_of self.now)) }
     {
-        for column in self.as_slice() {
-            if *column as usize >= width {
-                return false;
-            }
-        }
-        true
+        self.as_slice()
+            .iter()
+            .all(|column| usize::from(*column) < width)
     }
 
     /// The first position in `list` of each column that is listed there; the others are left out.
@@ -103,12 +114,9 @@ impl ColumnList {
     {
         let mut columns = Bounded::new(0);
         for column in self.as_slice() {
-            match list.position(*column) {
-                Some(place) => {
-                    // there is room: at most one is pushed for each of at most 64
-                    let _ = columns.push(place as u16);
-                }
-                None => {}
+            if let Some(place) = list.position(*column) {
+                // there is room: at most one is pushed for each of at most 64
+                let _ = columns.push(place as u16);
             }
         }
         ColumnList { columns }
@@ -118,53 +126,41 @@ impl ColumnList {
     pub fn all_listed_in(&self, list: &ColumnList) -> bool
         ensures { result ≡ list_all (is_listed (columns_of list.now)) (columns_of self.now) }
     {
-        self.places_in(list).len() == self.len()
+        self.as_slice().iter().all(|column| list.contains(*column))
     }
 
     pub fn push(&mut self, column: u16) -> Result<(), Refusal>
         ensures { AnswersOr result (full_at 64 (columns_of self.old)) (λ _. columns_of self.new ≡ columns_of self.old ++ column ∷ []) (self.new ≡ self.old) }
     {
-        match self.columns.push(column) {
-            Ok(()) => Ok(()),
-            Err(_) => Err(Refusal::Oversize),
-        }
+        Ok(self.columns.push(column)?)
     }
 
     /// The other columns after these, or no change.
     pub fn extend(&mut self, other: &ColumnList) -> Result<(), Refusal>
         ensures { AnswersOr result (oversize_together 64 (columns_of self.old) (columns_of other.now)) (λ _. columns_of self.new ≡ columns_of self.old ++ columns_of other.now) (self.new ≡ self.old) }
     {
-        match self.columns.extend_from_slice(other.columns.as_slice()) {
-            Ok(()) => Ok(()),
-            Err(_) => Err(Refusal::Oversize),
-        }
+        Ok(self.columns.extend_from_slice(other.as_slice())?)
     }
 
     /// Adds the offset to each column number, or changes none.
     pub fn add_offset(&mut self, offset: usize) -> Result<(), Refusal>
         ensures { AnswersOr result (overrun_at offset (columns_of self.old)) (λ _. columns_of self.new ≡ shifted offset (columns_of self.old)) (self.new ≡ self.old) }
     {
-        let mut moved = self.columns;
-        for (i, column) in self.as_slice().iter().enumerate() {
-            if offset > (u16::MAX - *column) as usize {
-                return Err(Refusal::Overrun);
-            }
-            moved.set(i, *column + offset as u16);
-        }
-        self.columns = moved;
+        self.columns = self.columns.try_map(0, |column| moved(column, offset))?;
         Ok(())
     }
 }
 
-impl PartialEq for ColumnList {
-    ghost eq = { λ a b. pointwise nat_eq (columns_of a) (columns_of b) };
+impl StandsFor for ColumnList {
+    ghost View = { List ℕ };
 
-    ghost laws = { partial_equiv_from_equiv (on_equiv columns_of nat_list_eq_equiv) };
+    ghost view = { columns_of };
 
-    fn eq(&self, other: &ColumnList) -> bool
-        ensures tested { result ≡ pointwise nat_eq (columns_of self.now) (columns_of other.now) }
-        ensures decides { Decides result (columns_of self.now ≡ columns_of other.now) }
-    {
-        self.columns == other.columns
-    }
+    ghost same = { pointwise nat_eq };
+
+    ghost equivalence = { nat_list_eq_equiv };
+
+    ghost tested = { λ a b. refl };
+
+    ghost decided = { Prim.search rules };
 }

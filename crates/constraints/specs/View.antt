@@ -1,7 +1,6 @@
 -- What the records of keys stand for.
 use Rattle.std.specs.Prelude.{List, [], map, Some, None, Option}
 use Rattle.bounded.specs.View.{list_of}
-use Rattle.bounded.specs.declared.list.Bounded.{Bounded}
 use Rattle.columns.specs.Columns.{columns_of}
 use Rattle.constraints.specs.Keys.{Key, primary_key, unique_key}
 use Rattle.constraints.specs.declared.constraints.Constraint.{Constraint}
@@ -19,7 +18,3 @@ keys_of k = map key_of (list_of k.inner)
 abbrev pub keys_or : Option Constraints → List Key
 keys_or None = []
 keys_or (Some k) = keys_of k
-
--- the record that holds that list
-abbrev pub holding_keys : Bounded Constraint 64 → Constraints
-holding_keys b = record { inner = b }

@@ -1,3 +1,4 @@
 #![tactic(auto)]
 
 pub mod constraints;
+pub mod stands_for;

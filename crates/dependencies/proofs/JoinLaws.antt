@@ -1,12 +1,17 @@
 -- The dependencies of a join are true of every table of joined rows.
-use Rattle.std.proofs.Common.{◌≡◌, ℕ, zero, suc, ◌+◌, ◌<◌, Bool, true, false, not, eqb, ◌⊎◌, List, [], ◌∷◌, ◌++◌, map, length, filter, refl, ap, ◌∙◌, subst, inl, inr, ⊎_elim, map-id, arith}
+use Rattle.std.proofs.Common.{◌≡◌, ℕ, zero, suc, ◌+◌, ◌<◌, Bool, true, false, not, eqb, ◌⊎◌, List, [], ◌∷◌, ◌++◌, map, length, filter, refl, ap, ◌∙◌, subst, inl, inr, ⊎_elim, map-id, Result, IfOk, arith}
 use Rattle.std.specs.List.{AllByRecursion}
 use Rattle.std.proofs.lemmas.List.{get_or_append_left, get_or-append-add}
 use Rattle.std.proofs.ByRecursion.{All-get_or, All-weaker, All-map, All-append, all_kept_by, kept_by_passes}
 use Rattle.std.proofs.lemmas.Bool.{and_parts, not-true, eqb-false}
 use Rattle.join_type.specs.declared.JoinType.{JoinType}
 use Rattle.join_type.specs.declared.JoinType.TheVariants.{Inner, Left, Right, Full, LeftSemi, RightSemi, LeftAnti, RightAnti, LeftMark, RightMark}
-use Rattle.dependencies.specs.Joins.{joined}
+use Rattle.names.specs.Refusals.{Answers}
+use Rattle.names.specs.declared.error.Refusal.{Refusal}
+use Rattle.names.proofs.Refused.{answers_law}
+use Rattle.dependencies.specs.Joins.{joined, join_refusal}
+use Rattle.dependencies.specs.View.{deps_of}
+use Rattle.dependencies.specs.declared.functional_dependencies.FunctionalDependencies.{FunctionalDependencies}
 use Rattle.dependencies.specs.JoinedTables.{Beside, Nulls, LeftAlone, RightAlone, PartOf, TrueOfJoins}
 use Rattle.dependencies.specs.Model.{Dep, dependence, with_mode, offset_by, nullable_dep, survives_nulls, padded}
 use Rattle.dependencies.specs.Tables.{Row, Table, null, cell_at, row_at, Keeps, KeepsAll, Within, Valid, Wide}
@@ -148,3 +153,7 @@ joined_true LeftMark w ls rs n lt rt t wl wr vl vr kl kr j = part_true w ls lt t
 joined_true RightSemi w ls rs n lt rt t wl wr vl vr kl kr j = part_true n rs rt t _ wr vr kr j
 joined_true RightAnti w ls rs n lt rt t wl wr vl vr kl kr j = part_true n rs rt t _ wr vr kr j
 joined_true RightMark w ls rs n lt rt t wl wr vl vr kl kr j = part_true n rs rt t _ wr vr kr j
+
+-- so is the answer of a call
+pub joined_law : (type : JoinType) (w : ℕ) (ls rs : List Dep) (r : Result FunctionalDependencies Refusal) → Answers r (join_refusal type w ls rs) (λ d. deps_of d ≡ joined type w ls rs) → IfOk r (λ d. TrueOfJoins type w ls rs (deps_of d))
+joined_law type w ls rs r answer = answers_law r _ deps_of _ (TrueOfJoins type w ls rs) answer (joined_true type w ls rs)

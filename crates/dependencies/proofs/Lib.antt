@@ -2,4 +2,3 @@ mod Shown
 pub mod JoinLaws
 mod KeyLaws
 mod ProjectLaws
-mod Same

@@ -1,7 +1,6 @@
 -- What the records of the code stand for.
 use Rattle.std.specs.Prelude.{List, map}
 use Rattle.bounded.specs.View.{list_of}
-use Rattle.bounded.specs.declared.list.Bounded.{Bounded}
 use Rattle.dependencies.specs.Model.{Dep, dependence}
 use Rattle.columns.specs.Columns.{columns_of}
 use Rattle.dependencies.specs.declared.functional_dependencies.FunctionalDependence.{FunctionalDependence}
@@ -12,7 +11,3 @@ dep_of d = dependence (columns_of d.source_indices) (columns_of d.target_indices
 
 abbrev pub deps_of : FunctionalDependencies → List Dep
 deps_of f = map dep_of (list_of f.deps)
-
--- the set that holds that list
-abbrev pub holding : Bounded FunctionalDependence 32 → FunctionalDependencies
-holding b = record { deps = b }

@@ -1,11 +1,9 @@
-ghost use Rattle.std.specs.Prelude.{◌≡◌, ◌≤◌, [], ◌∷◌, ◌++◌, map, length, Decides};
+ghost use Rattle.std.specs.Prelude.{◌≡◌, ◌≤◌, [], ◌∷◌, ◌++◌, map, length, Decides, true, false, MatchResult};
 ghost use Rattle.names.specs.Refusals.{Answers, AnswersOr, oversize_over};
+ghost use Rattle.names.specs.declared.error.Refusal.TheVariants.{Overrun};
 ghost use Rattle.columns.specs.Columns.{oversize_together, full_at, columns_of};
-ghost use Rattle.dependencies.specs.Model.{mode_name, dependence, with_mode, offset_by, overrun, overrun_any, survives_nulls, padded};
+ghost use Rattle.dependencies.specs.Model.{mode_name, dependence, with_mode, fits_dep, offset_by, overrun, overrun_any, survives_nulls, padded};
 ghost use Rattle.dependencies.specs.View.{dep_of, deps_of};
-ghost use Rattle.dependencies.specs.Same.{same_dep, same_deps};
-ghost use Rattle.dependencies.specs.SameLaws.{same_dep_equiv, same_deps_equiv};
-ghost use Rattle.std.specs.Cmp.{on_equiv, partial_equiv_from_equiv};
 
 use bounded::list::Bounded;
 use columns::column_list::ColumnList;
@@ -35,7 +33,7 @@ impl Dependency {
 }
 
 /// Rows that agree on all source columns agree on all target columns.
-#[derive(Clone, Copy)]
+#[derive(Clone, Copy, PartialEq, Eq)]
 pub struct FunctionalDependence {
     pub(crate) source_indices: ColumnList,
     pub(crate) target_indices: ColumnList,
@@ -45,7 +43,7 @@ pub struct FunctionalDependence {
 
 impl FunctionalDependence {
     // what stands in the places of a list that hold no dependency
-    fn filler() -> FunctionalDependence {
+    pub(crate) fn filler() -> FunctionalDependence {
         FunctionalDependence::new(ColumnList::empty(), ColumnList::empty(), false)
     }
 
@@ -79,6 +77,7 @@ impl FunctionalDependence {
         self
     }
 
+    // a getter for each field
     /// The columns of the determinant key.
     pub fn source_indices(&self) -> &ColumnList
         ensures { columns_of result.now ≡ (dep_of self.now).sources }
@@ -106,42 +105,31 @@ impl FunctionalDependence {
         self.mode
     }
 
+    // the dependency with both lists moved up by the offset
+    fn moved(mut self, offset: usize) -> Result<FunctionalDependence, Refusal>
+        ensures { MatchResult result (λ d. (dep_of d ≡ offset_by offset (dep_of self)) × (fits_dep offset (dep_of self) ≡ true)) (λ e. (e ≡ Overrun) × (fits_dep offset (dep_of self) ≡ false)) }
+    {
+        self.source_indices.add_offset(offset)?;
+        self.target_indices.add_offset(offset)?;
+        Ok(self)
+    }
+
     /// Moves both lists up by the offset, or changes neither.
     pub fn add_offset(&mut self, offset: usize) -> Result<(), Refusal>
         ensures { AnswersOr result (overrun offset (dep_of self.old)) (λ _. dep_of self.new ≡ offset_by offset (dep_of self.old)) (self.new ≡ self.old) }
     {
-        let mut sources = self.source_indices;
-        let mut targets = self.target_indices;
-        sources.add_offset(offset)?;
-        targets.add_offset(offset)?;
-        self.source_indices = sources;
-        self.target_indices = targets;
+        *self = self.moved(offset)?;
         Ok(())
     }
 }
 
-impl PartialEq for FunctionalDependence {
-    ghost eq = { λ a b. same_dep (dep_of a) (dep_of b) };
-
-    ghost laws = { partial_equiv_from_equiv (on_equiv dep_of same_dep_equiv) };
-
-    fn eq(&self, other: &FunctionalDependence) -> bool
-        ensures tested { result ≡ same_dep (dep_of self.now) (dep_of other.now) }
-        ensures decides { Decides result (dep_of self.now ≡ dep_of other.now) }
-    {
-        self.source_indices == other.source_indices
-            && self.target_indices == other.target_indices
-            && self.nullable == other.nullable
-            && self.mode == other.mode
-    }
-}
-
 /// The functional dependencies of a relation: at most 32.
-#[derive(Clone, Copy)]
+#[derive(Clone, Copy, PartialEq, Eq)]
 pub struct FunctionalDependencies {
     pub(crate) deps: Bounded<FunctionalDependence, MAX_DEPENDENCIES>,
 }
 
+// Calls of `Bounded`, as each list has them in its own crate.
 impl FunctionalDependencies {
     pub fn empty() -> FunctionalDependencies
         ensures { deps_of result ≡ [] }
@@ -154,10 +142,9 @@ impl FunctionalDependencies {
     pub fn new(dependencies: &[FunctionalDependence]) -> Result<FunctionalDependencies, Refusal>
         ensures { Answers result (oversize_over 32 dependencies.now) (λ d. deps_of d ≡ map dep_of dependencies.now) }
     {
-        match Bounded::from_slice(FunctionalDependence::filler(), dependencies) {
-            Ok(deps) => Ok(FunctionalDependencies { deps }),
-            Err(_) => Err(Refusal::Oversize),
-        }
+        Ok(FunctionalDependencies {
+            deps: Bounded::from_slice(FunctionalDependence::filler(), dependencies)?,
+        })
     }
 
     pub fn len(&self) -> usize
@@ -177,43 +164,36 @@ impl FunctionalDependencies {
     pub fn push(&mut self, dependence: FunctionalDependence) -> Result<(), Refusal>
         ensures { AnswersOr result (full_at 32 (deps_of self.old)) (λ _. deps_of self.new ≡ deps_of self.old ++ dep_of dependence ∷ []) (self.new ≡ self.old) }
     {
-        match self.deps.push(dependence) {
-            Ok(()) => Ok(()),
-            Err(_) => Err(Refusal::Oversize),
-        }
+        Ok(self.deps.push(dependence)?)
     }
 
     /// Merges the other dependencies with these, or changes nothing.
     pub fn extend(&mut self, other: &FunctionalDependencies) -> Result<(), Refusal>
         ensures { AnswersOr result (oversize_together 32 (deps_of self.old) (deps_of other.now)) (λ _. deps_of self.new ≡ deps_of self.old ++ deps_of other.now) (self.new ≡ self.old) }
     {
-        match self.deps.extend_from_slice(other.deps.as_slice()) {
-            Ok(()) => Ok(()),
-            Err(_) => Err(Refusal::Oversize),
-        }
+        Ok(self.deps.extend_from_slice(other.as_slice())?)
     }
 
     /// Turns each dependency to the mode.
     pub fn with_dependency(&mut self, mode: Dependency)
         ensures { deps_of self.new ≡ map (with_mode mode) (deps_of self.old) }
     {
-        let before = *self;
-        for (i, d) in before.deps.as_slice().iter().enumerate() {
-            let mut turned = *d;
-            turned.mode = mode;
-            self.deps.set(i, turned);
+        let mut turned = Bounded::new(FunctionalDependence::filler());
+        for dependence in self.as_slice() {
+            // there is room: one is pushed for each
+            let _ = turned.push(dependence.with_mode(mode));
         }
+        self.deps = turned;
     }
 
     /// Moves every list up by the offset, or changes none.
     pub fn add_offset(&mut self, offset: usize) -> Result<(), Refusal>
         ensures { AnswersOr result (overrun_any offset (deps_of self.old)) (λ _. deps_of self.new ≡ map (offset_by offset) (deps_of self.old)) (self.new ≡ self.old) }
     {
-        let mut moved = self.deps;
-        for (i, d) in self.deps.as_slice().iter().enumerate() {
-            let mut d = *d;
-            d.add_offset(offset)?;
-            moved.set(i, d);
+        let mut moved = Bounded::new(FunctionalDependence::filler());
+        for dependence in self.as_slice() {
+            // there is room: one is pushed for each
+            let _ = moved.push(dependence.moved(offset)?);
         }
         self.deps = moved;
         Ok(())
@@ -224,29 +204,16 @@ impl FunctionalDependencies {
     pub fn downgrade_dependencies(&mut self)
         ensures { deps_of self.new ≡ padded (deps_of self.old) }
     {
-        let before = *self;
-        let mut count = 0;
-        for d in before.deps.as_slice() {
-            if d.survives_nulls() {
-                let mut stays = *d;
-                stays.nullable = true;
-                self.deps.set(count, stays);
-                count += 1;
+        let mut stays = Bounded::new(FunctionalDependence::filler());
+        for dependence in self.as_slice() {
+            if dependence.survives_nulls() {
+                // there is room: no more are kept than there are
+                let _ = stays.push(FunctionalDependence {
+                    nullable: true,
+                    ..*dependence
+                });
             }
         }
-        self.deps.truncate(count);
-    }
-}
-
-impl PartialEq for FunctionalDependencies {
-    ghost eq = { λ a b. same_deps (deps_of a) (deps_of b) };
-
-    ghost laws = { partial_equiv_from_equiv (on_equiv deps_of same_deps_equiv) };
-
-    fn eq(&self, other: &FunctionalDependencies) -> bool
-        ensures tested { result ≡ same_deps (deps_of self.now) (deps_of other.now) }
-        ensures decides { Decides result (deps_of self.now ≡ deps_of other.now) }
-    {
-        self.deps == other.deps
+        self.deps = stays;
     }
 }

@@ -11,6 +11,7 @@ use names::error::Refusal;
 
 impl FunctionalDependencies {
     /// The dependencies of a join of that type, where the left side has `left_cols_len` columns and `other` is the right side's.
+    #[tactic(auto, using(crate::proofs::JoinLaws::joined_law))]
     pub fn join(
         &self,
         other: &FunctionalDependencies,
@@ -19,17 +20,6 @@ impl FunctionalDependencies {
     ) -> Result<FunctionalDependencies, Refusal>
         ensures answer { Answers result (join_refusal join_type left_cols_len (deps_of self.now) (deps_of other.now)) (λ d. deps_of d ≡ joined join_type left_cols_len (deps_of self.now) (deps_of other.now)) }
         ensures true_of_joins { IfOk result (λ d. TrueOfJoins join_type left_cols_len (deps_of self.now) (deps_of other.now) (deps_of d)) }
-    {
-        self.join_by_type(other, join_type, left_cols_len)
-    }
-
-    fn join_by_type(
-        &self,
-        other: &FunctionalDependencies,
-        join_type: JoinType,
-        left_cols_len: usize,
-    ) -> Result<FunctionalDependencies, Refusal>
-        ensures { Answers result (join_refusal join_type left_cols_len (deps_of self.now) (deps_of other.now)) (λ d. deps_of d ≡ joined join_type left_cols_len (deps_of self.now) (deps_of other.now)) }
     {
         if left_cols_len > MAX_COLUMNS {
             return Err(Refusal::Oversize);

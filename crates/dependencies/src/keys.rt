@@ -44,15 +44,6 @@ impl FunctionalDependencies {
         ensures answer { Answers result (oversize_keys n_field (keys_or (option_map (λ x. x.now) constraints.entry))) (λ d. deps_of d ≡ map (key_dependency (range_with_len 0 n_field)) (keys_or (option_map (λ x. x.now) constraints.entry))) }
         ensures stand_for_keys { IfOk result (λ d. StandForKeys (keys_or (option_map (λ x. x.now) constraints.entry)) (deps_of d)) }
     {
-        FunctionalDependencies::of_keys(constraints, n_field)
-    }
-
-    fn of_keys(
-        constraints: Option<&Constraints>,
-        n_field: usize,
-    ) -> Result<FunctionalDependencies, Refusal>
-        ensures { Answers result (oversize_keys n_field (keys_or (option_map (λ x. x.now) constraints.entry))) (λ d. deps_of d ≡ map (key_dependency (range_with_len 0 n_field)) (keys_or (option_map (λ x. x.now) constraints.entry))) }
-    {
         let all = ColumnList::all(n_field)?;
         match constraints {
             Some(constraints) => dependencies_of(constraints, all),

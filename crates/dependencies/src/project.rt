@@ -6,6 +6,7 @@ ghost use Rattle.dependencies.specs.ProjectedTables.{TrueOfProjections};
 ghost use Rattle.dependencies.specs.View.{dep_of, deps_of};
 
 use crate::functional_dependencies::{Dependency, FunctionalDependence, FunctionalDependencies};
+use bounded::list::Bounded;
 use columns::column_list::ColumnList;
 use names::error::Refusal;
 
@@ -33,26 +34,14 @@ impl FunctionalDependencies {
         ensures answer { Answers result (oversize_width n_out) (λ d. deps_of d ≡ projected (columns_of proj_indices.now) n_out (deps_of self.now)) }
         ensures true_of_projections { IfOk result (λ d. TrueOfProjections (columns_of proj_indices.now) (deps_of self.now) (deps_of d)) }
     {
-        self.project(proj_indices, n_out)
-    }
-
-    fn project(
-        &self,
-        proj_indices: &ColumnList,
-        n_out: usize,
-    ) -> Result<FunctionalDependencies, Refusal>
-        ensures { Answers result (oversize_width n_out) (λ d. deps_of d ≡ projected (columns_of proj_indices.now) n_out (deps_of self.now)) }
-    {
         let all = ColumnList::all(n_out)?;
-        let mut projected = *self;
-        let mut count = 0;
-        for d in self.deps.as_slice() {
-            if d.source_indices.all_listed_in(proj_indices) {
-                projected.deps.set(count, d.projected(proj_indices, all));
-                count += 1;
+        let mut deps = Bounded::new(FunctionalDependence::filler());
+        for dependence in self.as_slice() {
+            if dependence.source_indices.all_listed_in(proj_indices) {
+                // there is room: no more are kept than there are
+                let _ = deps.push(dependence.projected(proj_indices, all));
             }
         }
-        projected.deps.truncate(count);
-        Ok(projected)
+        Ok(FunctionalDependencies { deps })
     }
 }

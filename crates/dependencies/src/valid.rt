@@ -6,6 +6,7 @@ ghost use Rattle.dependencies.specs.Tables.{Within, Valid};
 ghost use Rattle.dependencies.specs.View.{dep_of, deps_of};
 
 use crate::functional_dependencies::{Dependency, FunctionalDependence, FunctionalDependencies};
+use bounded::list::Bounded;
 use columns::column_list::{ColumnList, MAX_COLUMNS};
 use names::error::Refusal;
 
@@ -29,17 +30,6 @@ impl FunctionalDependence {
 }
 
 impl FunctionalDependencies {
-    fn all_within(&self, n_field: usize) -> bool
-        ensures { Decides result (Valid n_field (deps_of self.now)) }
-    {
-        for d in self.as_slice() {
-            if !d.is_within(n_field) {
-                return false;
-            }
-        }
-        true
-    }
-
     /// Whether each listed column is one of a schema of that width.
     pub fn is_valid(&self, n_field: usize) -> Result<bool, Refusal>
         ensures { Answers result (oversize_width n_field) (λ valid. Decides valid (Valid n_field (deps_of self.now))) }
@@ -47,7 +37,7 @@ impl FunctionalDependencies {
         if n_field > MAX_COLUMNS {
             return Err(Refusal::Oversize);
         }
-        Ok(self.all_within(n_field))
+        Ok(self.as_slice().iter().all(|d| d.is_within(n_field)))
     }
 
     /// Lets each key that occurs once determine all columns of the output.
@@ -55,10 +45,12 @@ impl FunctionalDependencies {
         ensures { AnswersOr result (oversize_width n_out) (λ _. deps_of self.new ≡ map (targets_over n_out) (deps_of self.old)) (self.new ≡ self.old) }
     {
         let all = ColumnList::all(n_out)?;
-        let before = *self;
-        for (i, d) in before.deps.as_slice().iter().enumerate() {
-            self.deps.set(i, d.covering(all));
+        let mut covering = Bounded::new(FunctionalDependence::filler());
+        for dependence in self.as_slice() {
+            // there is room: one is pushed for each
+            let _ = covering.push(dependence.covering(all));
         }
+        self.deps = covering;
         Ok(())
     }
 }

@@ -38,6 +38,7 @@ pub struct JoinRecord {
     pub empty_map: bool,
 }
 
+// A table: its rules are checked once over the whole of it.
 /// The ten join types, each at its own number.
 pub const JOIN_TYPES: [JoinRecord; 10] = [
     JoinRecord {
@@ -133,6 +134,7 @@ pub const JOIN_TYPES: [JoinRecord; 10] = [
 ];
 
 impl JoinType {
+    // a number, since the table is published with its places
     /// The place of the type in the table.
     pub fn number(self) -> u8
         ensures { result ≡ number_of self }

@@ -6,4 +6,4 @@ use Rattle.dependencies.specs.View.{deps_of}
 use Rattle.dependencies.proofs.keys.dependencies_of.Given as goal
 
 abbrev pub invariant-loop-key : goal.invariant-loop-key
-invariant-loop-key l = deps_of l.dependencies ≡ map (λ k. key_dependency (columns_of l.all) (key_of k)) (take l.key-index l.key-items)
+invariant-loop-key l = deps_of l.dependencies ≡ map (key_dependency (columns_of l.all)) (map key_of (take l.key-index l.key-items))

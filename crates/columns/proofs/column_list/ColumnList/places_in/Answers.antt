@@ -1,10 +1,11 @@
-use Rattle.std.proofs.Common.{◌<◌, length, get_or, take, Some, None, ap, ◌∙◌, arith}
+use Rattle.std.proofs.Common.{◌<◌, eqb, length, get_or, take, Some, None, ap, ◌∙◌, arith}
 use Rattle.std.proofs.lemmas.List.{length-take-le, take_all}
 use Rattle.bounded.specs.View.{list_of}
+use Rattle.names.proofs.FirstPlaces.{places_few, places_listed, places_missing}
 use Rattle.columns.specs.Columns.{columns_of, places}
-use Rattle.columns.proofs.Places.{first_place_is, places_few, places_listed, places_missing}
+use Rattle.columns.proofs.Places.{first_place_is}
 use Rattle.columns.proofs.column_list.ColumnList.places_in.Goals as goal
-use Rattle.columns.proofs.column_list.ColumnList.places_in.Goals.{in-Some, in-None}
+use Rattle.columns.proofs.column_list.ColumnList.places_in.Goals.{in-Some, in_default}
 
 pub loop-column-preserved : goal.loop-column-preserved
 loop-column-preserved c =
@@ -15,9 +16,9 @@ loop-column-preserved c =
     let so_far = c.loop-column.invariant in
     elim c.match-position.branch [
       | in-Some w ↦
-          let room : length (list_of c.loop-column.columns) < 64 = omega (arith, ap length so_far, places_few xs (take i cs), length-take-le i cs (omega arith), c.as_slice-column-items.ensures.few) in
-          rw w.columns-is (places_listed xs cs i inside so_far w.in-Some.place (first_place_is xs (get_or cs i 0) (Some w.in-Some.place) w.in-Some.ensures) (w.push.ensures.pushed room))
-      | in-None w ↦ rw w.columns-is (places_missing xs cs i inside so_far (first_place_is xs (get_or cs i 0) None w.in-None.ensures))
+          let room : length (list_of c.loop-column.columns) < 64 = omega (arith, ap length so_far, places_few (λ x y. eqb x y) xs (take i cs), length-take-le i cs (omega arith), c.as_slice-column-items.ensures.few) in
+          rw w.columns-is (places_listed _ xs cs i 0 inside so_far w.in-Some.place (first_place_is xs (get_or cs i 0) (Some w.in-Some.place) w.in-Some.ensures) (w.push.ensures.pushed room))
+      | in_default w ↦ rw w.columns-is (places_missing _ xs cs i 0 inside so_far (first_place_is xs (get_or cs i 0) None w.in_default.ensures))
     ]
 
 pub returns : goal.returns
