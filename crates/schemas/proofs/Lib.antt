@@ -1,6 +1,3 @@
 mod Clashing
-mod Found
-mod HasColumn
 mod Least
-mod There
-pub mod Passing
+mod Repeats

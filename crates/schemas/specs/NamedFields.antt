@@ -4,7 +4,7 @@ use Rattle.names.specs.declared.column.Column.{Column}
 use Rattle.names.specs.declared.error.Refusal.{Refusal}
 use Rattle.names.specs.declared.error.Refusal.TheVariants.{Schema}
 use Rattle.names.specs.declared.error.SchemaError.TheVariants.{AmbiguousReference}
-use Rattle.names.specs.declared.name.Name.{Name}
+use Rattle.names.specs.Names.{Name}
 use Rattle.schemas.specs.declared.dfschema.Field.{Field}
 use Rattle.schemas.specs.Lookups.{has_name, unknown_column}
 

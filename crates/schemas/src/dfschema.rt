@@ -1,6 +1,6 @@
 ghost use Rattle.std.specs.Prelude.{◌≡◌, ◌≤◌, [], ◌++◌, map, length, MatchResult};
 ghost use Rattle.bounded.specs.View.{list_of};
-ghost use Rattle.names.specs.Names.{full_text_of};
+ghost use Rattle.names.specs.Names.{text_of};
 ghost use Rattle.names.specs.Refusals.{Answers, oversize_over};
 ghost use Rattle.names.specs.declared.error.Refusal.TheVariants.{NoColumn};
 ghost use Rattle.dependencies.specs.Tables.{Valid};
@@ -40,7 +40,7 @@ pub struct DFSchema {
 }
 
 // what stands in the places of a list that hold no field
-pub(crate) fn filler() -> Field {
+fn filler() -> Field {
     Field {
         column: Column::new_unqualified(Name::empty()),
         kind: Kind::Number,
@@ -62,16 +62,10 @@ impl DFSchema {
     pub fn new_unchecked(fields: &[Field]) -> Result<DFSchema, Refusal>
         ensures { Answers result (oversize_over 64 fields.now) (SchemaOf fields.now) }
     {
-        match Bounded::from_slice(filler(), fields) {
-            Ok(fields) => {
-                let functional_dependencies = FunctionalDependencies::empty();
-                Ok(DFSchema {
-                    fields,
-                    functional_dependencies,
-                })
-            }
-            Err(_) => Err(Refusal::Oversize),
-        }
+        Ok(DFSchema {
+            fields: Bounded::from_slice(filler(), fields)?,
+            functional_dependencies: FunctionalDependencies::empty(),
+        })
     }
 
     /// Those columns, if their names pass, and no dependencies.
@@ -83,6 +77,7 @@ impl DFSchema {
         Ok(schema)
     }
 
+    // a getter for each field
     pub fn fields(&self) -> &[Field]
         ensures value { result.now ≡ fields_of self.now }
         ensures few { length result.now ≤ 64 }
@@ -97,27 +92,19 @@ impl DFSchema {
     }
 
     /// The columns by reference and name, in order.
+    #[tactic(auto, using(bounded::proofs::Called::zip_map))]
     pub fn columns(&self) -> Bounded<Column, MAX_COLUMNS>
         ensures { list_of result ≡ map column_in (fields_of self.now) }
     {
-        let mut columns = Bounded::new(Column::new_unqualified(Name::empty()));
-        for field in self.fields.as_slice() {
-            // there is room: there are at most 64 fields
-            let _ = columns.push(field.column);
-        }
-        columns
+        self.fields.map(filler().column, |field| field.column)
     }
 
     /// The full names, in order.
     pub fn field_names(&self) -> Bounded<FullName, MAX_COLUMNS>
-        ensures { map full_text_of (list_of result) ≡ map full_name_in (fields_of self.now) }
+        ensures { map text_of (list_of result) ≡ map full_name_in (fields_of self.now) }
     {
-        let mut names = Bounded::new(FullName::empty());
-        for field in self.fields.as_slice() {
-            // there is room: there are at most 64 fields
-            let _ = names.push(field.column.flat_name());
-        }
-        names
+        self.fields
+            .map(FullName::empty(), |field| field.column.flat_name())
     }
 
     pub fn check_names(&self) -> Result<(), Refusal>
@@ -128,14 +115,16 @@ impl DFSchema {
 
     /// The same columns with those dependencies, if they list no missing column.
     pub fn with_functional_dependencies(
-        mut self,
+        self,
         functional_dependencies: FunctionalDependencies,
     ) -> Result<DFSchema, Refusal>
         ensures { MatchResult result (λ s. Valid (length (fields_of self)) (deps_of functional_dependencies) × (fields_of s ≡ fields_of self) × (dependencies_of s ≡ deps_of functional_dependencies)) (λ e. (e ≡ NoColumn) × (Valid (length (fields_of self)) (deps_of functional_dependencies) → ⊥)) }
     {
         if functional_dependencies.is_valid(self.fields.len())? {
-            self.functional_dependencies = functional_dependencies;
-            Ok(self)
+            Ok(DFSchema {
+                functional_dependencies,
+                ..self
+            })
         } else {
             Err(Refusal::NoColumn)
         }
@@ -147,9 +136,7 @@ impl DFSchema {
         ensures joined_unless_clash { JoinedUnlessClash (fields_of self.now) (fields_of schema.now) result }
     {
         let mut fields = self.fields;
-        match fields.extend_from_slice(schema.fields.as_slice()) {
-            Ok(()) => DFSchema::new(fields.as_slice()),
-            Err(_) => Err(Refusal::Oversize),
-        }
+        fields.extend_from_slice(schema.fields())?;
+        DFSchema::new(fields.as_slice())
     }
 }

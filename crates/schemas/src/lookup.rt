@@ -1,47 +1,21 @@
-ghost use Rattle.std.specs.Prelude.{◌≡◌, ◌<◌, length, Some, None, Decides, MatchOption, MatchResult};
-ghost use Rattle.std.specs.List.{HoldsAt, AllWithin};
-ghost use Rattle.names.specs.Columns.{column_of};
+ghost use Rattle.std.specs.Prelude.{◌≡◌, Some, None, Decides, MatchResult};
+ghost use Rattle.std.specs.List.{list_any};
 ghost use Rattle.schemas.specs.Lookups.{RelationFits, Means, SomeMeant, FirstMeant, unknown_column, has_name, has_qualified_name, has_column};
-ghost use Rattle.schemas.specs.Merges.{some_passes};
 ghost use Rattle.schemas.specs.Schemas.{fields_of};
 
 use crate::dfschema::{DFSchema, Field};
 use names::column::Column;
 use names::error::{MissingField, Refusal, SchemaError};
-use names::first::{SameAs, first_position};
 use names::name::Name;
 use names::table_reference::TableReference;
 
-// a column as a query names it
-#[derive(Clone, Copy)]
-struct Lookup {
-    relation: Option<TableReference>,
-    name: Name,
-}
-
-fn relation_fits(asked: &Option<TableReference>, relation: &Option<TableReference>) -> bool
-    ensures { Decides result (RelationFits asked.now relation.now) }
-{
-    match (asked, relation) {
-        (Some(q), Some(r)) => q.resolved_eq(r),
-        (Some(_), None) => false,
-        (None, _) => true,
-    }
-}
-
-impl SameAs<Lookup> for Field {
-    ghost is_same = { λ f l. Means l.relation l.name f };
-
-    fn same_as(&self, other: &Lookup) -> bool {
-        self.column.name == other.name && relation_fits(&other.relation, &self.column.relation)
-    }
-}
-
-impl SameAs<Column> for Field {
-    ghost is_same = { λ f c. column_of f.column ≡ column_of c };
-
-    fn same_as(&self, other: &Column) -> bool {
-        self.column == *other
+impl Field {
+    // whether a query that names a column so can mean the field
+    fn is_meant(&self, qualifier: &Option<TableReference>, name: &Name) -> bool
+        ensures { Decides result (Means qualifier.now name.now self.now) }
+    {
+        self.column.name == *name
+            && qualifier.is_none_or(|q| self.column.relation.is_some_and(|r| q.resolved_eq(&r)))
     }
 }
 
@@ -50,7 +24,7 @@ pub(crate) fn unknown(column: Column) -> Refusal
     ensures { result ≡ unknown_column column }
 {
     let field = MissingField::Column(column);
-    Refusal::Schema(SchemaError::FieldNotFound { field })
+    SchemaError::FieldNotFound { field }.into()
 }
 
 impl DFSchema {
@@ -60,13 +34,11 @@ impl DFSchema {
         qualifier: Option<TableReference>,
         name: &Name,
     ) -> Option<usize>
-        ensures { MatchOption result (AllWithin (λ f. Means qualifier name.now f → ⊥) (fields_of self.now) 0 (length (fields_of self.now))) (λ i. (i < length (fields_of self.now)) × HoldsAt (Means qualifier name.now) (fields_of self.now) i × AllWithin (λ f. Means qualifier name.now f → ⊥) (fields_of self.now) 0 i) }
+        ensures { FirstMeant qualifier name.now (fields_of self.now) result }
     {
-        let lookup = Lookup {
-            relation: qualifier,
-            name: *name,
-        };
-        first_position(self.fields(), &lookup)
+        self.fields()
+            .iter()
+            .position(|field| field.is_meant(&qualifier, name))
     }
 
     pub fn maybe_index_of_column(&self, col: &Column) -> Option<usize>
@@ -79,10 +51,7 @@ impl DFSchema {
     pub fn index_of_column(&self, col: &Column) -> Result<usize, Refusal>
         ensures { MatchResult result (λ i. FirstMeant col.now.relation col.now.name (fields_of self.now) (Some i)) (λ e. FirstMeant col.now.relation col.now.name (fields_of self.now) None × (e ≡ unknown_column col.now)) }
     {
-        match self.maybe_index_of_column(col) {
-            Some(i) => Ok(i),
-            None => Err(unknown(*col)),
-        }
+        self.maybe_index_of_column(col).ok_or_else(|| unknown(*col))
     }
 
     /// Whether `index_of_column` finds the column.
@@ -94,20 +63,17 @@ impl DFSchema {
 
     /// Whether a column has that name.
     pub fn has_column_with_unqualified_name(&self, name: &Name) -> bool
-        ensures { result ≡ some_passes (has_name name.now) (fields_of self.now) }
+        ensures { result ≡ list_any (has_name name.now) (fields_of self.now) }
     {
-        self.index_of_column_by_name(None, name).is_some()
+        self.fields().iter().any(|field| field.column.name == *name)
     }
 
     /// Whether a column has exactly that reference and that name.
     pub fn has_column_with_qualified_name(&self, qualifier: &TableReference, name: &Name) -> bool
-        ensures { result ≡ some_passes (has_qualified_name qualifier.now name.now) (fields_of self.now) }
+        ensures { result ≡ list_any (has_qualified_name qualifier.now name.now) (fields_of self.now) }
     {
-        let column = Column {
-            relation: Some(*qualifier),
-            name: *name,
-        };
-        first_position(self.fields(), &column).is_some()
+        let column = Column::new(Some(*qualifier), *name);
+        self.fields().iter().any(|field| field.column == column)
     }
 
     /// Whether a column has that reference and name; without a reference, whether one has that name.

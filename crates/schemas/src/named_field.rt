@@ -4,7 +4,7 @@ ghost use Rattle.schemas.specs.Lookups.{has_name};
 ghost use Rattle.schemas.specs.NamedFields.{is_unqualified, only_of, field_named};
 ghost use Rattle.schemas.specs.Schemas.{fields_of};
 
-use crate::dfschema::{DFSchema, Field, filler};
+use crate::dfschema::{DFSchema, Field};
 use crate::lookup::unknown;
 use bounded::list::Bounded;
 use columns::column_list::MAX_COLUMNS;
@@ -13,17 +13,11 @@ use names::error::{Refusal, SchemaError};
 use names::name::Name;
 
 // the fields without a reference
-fn without_qualifier(fields: &Bounded<Field, MAX_COLUMNS>) -> Bounded<Field, MAX_COLUMNS>
-    ensures { list_of result ≡ filter is_unqualified (list_of fields.now) }
+fn without_qualifier(mut fields: Bounded<Field, MAX_COLUMNS>) -> Bounded<Field, MAX_COLUMNS>
+    ensures { list_of result ≡ filter is_unqualified (list_of fields) }
 {
-    let mut found = Bounded::new(filler());
-    for field in fields.as_slice() {
-        if field.column.relation.is_none() {
-            // there is room: these are some of at most 64 fields
-            let _ = found.push(*field);
-        }
-    }
-    found
+    fields.retain(|field| field.column.relation.is_none());
+    fields
 }
 
 // the field, where there is just one
@@ -41,13 +35,8 @@ impl DFSchema {
     pub fn qualified_fields_with_unqualified_name(&self, name: &Name) -> Bounded<Field, MAX_COLUMNS>
         ensures { list_of result ≡ filter (has_name name.now) (fields_of self.now) }
     {
-        let mut matches = Bounded::new(filler());
-        for field in self.fields.as_slice() {
-            if field.column.name == *name {
-                // there is room: these are some of at most 64 fields
-                let _ = matches.push(*field);
-            }
-        }
+        let mut matches = self.fields;
+        matches.retain(|field| field.column.name == *name);
         matches
     }
 
@@ -60,10 +49,9 @@ impl DFSchema {
         match matches.as_slice() {
             [] => Err(unknown(column)),
             [field] => Ok(*field),
-            _ => match only(without_qualifier(&matches).as_slice()) {
-                Some(field) => Ok(field),
-                None => Err(Refusal::Schema(SchemaError::AmbiguousReference { field: column })),
-            },
+            _ => only(without_qualifier(matches).as_slice()).ok_or_else(
+                || SchemaError::AmbiguousReference { field: column }.into(),
+            ),
         }
     }
 }

@@ -1,4 +1,4 @@
-use Rattle.std.proofs.Common.{List, map, Some, None, subst, inr}
+use Rattle.std.proofs.Common.{List, map, Some, subst, inr}
 use Rattle.std.proofs.lemmas.Result.{err_from_is_err_and}
 use Rattle.schemas.specs.CheckNames.{NamesAnswer}
 use Rattle.schemas.specs.Schemas.{column_in}
@@ -11,8 +11,3 @@ returns-in_err-check_names c =
     let said = c.in_ok-schema.ensures in
     let e = c.in_err-check_names.field-0.0 in
     rw (p.1, p.2) (inr (said.0, subst (λ (fs : List Field). NamesAnswer (map column_in fs) (Some e)) said.1.0 c.in_err-check_names.ensures))
-
-pub returns : goal.returns
-returns c =
-    let said = c.in_ok-schema.ensures in
-    (said.0, subst (λ (fs : List Field). NamesAnswer (map column_in fs) None) said.1.0 c.in_ok-check_names.ensures, said.1)
