@@ -1,6 +1,6 @@
 -- The dependencies of a grouping, as the original answers them.
 use Rattle.std.specs.Prelude.{ℕ, Bool, cond, not, ◌&&◌, List, [], ◌∷◌, map, length, take, None, filter, Option, ◌==◌, nat_lt}
-use Rattle.std.specs.List.{range_with_len, list_all}
+use Rattle.std.specs.List.{range_with_len, list_all, list_any}
 use Rattle.std.specs.Str.{bytes_eq}
 use Rattle.names.specs.declared.error.Refusal.{Refusal}
 use Rattle.names.specs.declared.error.Refusal.TheVariants.{Oversize, NoColumn}
@@ -8,7 +8,6 @@ use Rattle.names.specs.Refusals.{refused_if}
 use Rattle.dependencies.specs.declared.functional_dependencies.Dependency.TheVariants.{Single}
 use Rattle.dependencies.specs.Model.{Dep, dependence}
 use Rattle.schemas.specs.declared.dfschema.Field.{Field}
-use Rattle.schemas.specs.Merges.{some_passes}
 use Rattle.reductions.specs.GroupByLaws.{names_at}
 use Rattle.reductions.specs.Meant.{text_at}
 use Rattle.aggregates.specs.Targets.{is_among, target_columns}
@@ -40,7 +39,7 @@ abbrev pub nullable_in : Field → Bool
 nullable_in f = f.nullable
 
 abbrev pub any_nullable : List Field → Bool
-any_nullable fs = some_passes (λ b. b) (map nullable_in fs)
+any_nullable fs = list_any (λ b. b) (map nullable_in fs)
 
 -- all names together determine all output columns, and occur once
 abbrev pub group_key : ℕ → List Field → Dep

@@ -1,3 +1,4 @@
 pub mod Aggregates
 pub mod Targets
 pub mod TargetLaws
+pub mod Grouped

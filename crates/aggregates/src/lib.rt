@@ -1,4 +1,5 @@
 #![tactic(auto)]
 
 pub mod aggregate;
+mod grouping;
 pub mod target;

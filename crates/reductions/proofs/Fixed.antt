@@ -1,20 +1,18 @@
 -- Rows that agree on known columns agree on what these determine.
-use Rattle.std.proofs.Common.{◌≡◌, ℕ, ◌<◌, Bool, true, List, [], ◌∷◌, length, sym, ◌∙◌, ⊎_elim}
-use Rattle.std.specs.List.{AllByRecursion, list_all}
+use Rattle.std.proofs.Common.{◌≡◌, ℕ, ◌<◌, Bool, true, List, [], ◌∷◌, length, ⊎_elim}
+use Rattle.std.specs.List.{AllByRecursion, list_all, list_any}
 use Rattle.std.proofs.ByRecursion.{All-weaker}
 use Rattle.std.proofs.lemmas.Bool.{false≢true, and_parts, or_cases}
 use Rattle.columns.specs.Columns.{is_listed}
 use Rattle.dependencies.specs.Model.{Dep}
 use Rattle.dependencies.specs.Tables.{Table, cell_at, row_at, Keeps, KeepsAll}
-use Rattle.schemas.specs.Merges.{some_passes}
-use Rattle.schemas.proofs.Passing.{some_passes_more}
 use Rattle.reductions.specs.Determined.{determined_by, is_determined}
 use Rattle.reductions.proofs.Listed.{all_at, all_from_pass}
 
 -- what follows from each element that passes follows if one passes
-some_gives : {X : Type 0} (p : X → Bool) (R : Type 0) (xs : List X) → AllByRecursion (λ x. p x ≡ true → R) xs → some_passes p xs ≡ true → R
+some_gives : {X : Type 0} (p : X → Bool) (R : Type 0) (xs : List X) → AllByRecursion (λ x. p x ≡ true → R) xs → list_any p xs ≡ true → R
 some_gives p R [] h e = absurd (false≢true e)
-some_gives p R (x ∷ xs) h e = ⊎_elim h.0 (some_gives p R xs h.1) (or_cases (p x) (some_passes p xs) (sym (some_passes_more p x xs) ∙ e))
+some_gives p R (x ∷ xs) h e = ⊎_elim h.0 (some_gives p R xs h.1) (or_cases (p x) (list_any p xs) e)
 
 module _ (known : ℕ → Bool) (ds : List Dep) (t : Table) (i j : ℕ) (keeps : KeepsAll ds t) (hi : i < length t) (hj : j < length t) where
   abbrev Same : ℕ → Type 0

@@ -1,20 +1,14 @@
 -- The columns of the entries that are kept so far.
-use Rattle.std.proofs.Common.{◌≡◌, ℕ, zero, suc, ◌+◌, ◌<◌, Bool, true, false, cond, List, [], ◌∷◌, ◌++◌, filter, sym, refl, ap, ◌∙◌, append_assoc, arith}
-use Rattle.std.specs.List.{range_with_len, flat_map}
+use Rattle.std.proofs.Common.{◌≡◌, ℕ, zero, suc, ◌+◌, ◌<◌, Bool, true, false, cond, List, [], ◌∷◌, ◌++◌, filter, refl, ap, ◌∙◌, arith}
+use Rattle.std.specs.List.{range_with_len}
 use Rattle.std.specs.Option.{option_to_list as optional}
-use Rattle.std.proofs.lemmas.List.FromFn.{map-range_with_len_more}
 use Rattle.std.proofs.lemmas.List.Elements.{filter-append}
-use Rattle.std.proofs.lemmas.List.{append-nil, map-append, map-id}
+use Rattle.std.proofs.lemmas.Grind.{flat_map-append}
+use Rattle.std.proofs.lemmas.List.{append-nil, map-append}
 use Rattle.reductions.specs.GroupByLaws.{names_at}
 use Rattle.reductions.specs.Meant.{column_named, meant, text_at}
+use Rattle.reductions.proofs.Listed.{counting_more}
 use Rattle.reductions.specs.Sorts.{mark_at, kept_positions, kept_before}
-
-joined_append : {X A : Type 0} (f : X → List A) (xs ys : List X) → flat_map f (xs ++ ys) ≡ flat_map f xs ++ flat_map f ys
-joined_append f [] ys = refl
-joined_append f (x ∷ xs) ys = ap (λ l. f x ++ l) (joined_append f xs ys) ∙ sym (append_assoc (f x) (flat_map f xs) (flat_map f ys))
-
-counting_more : (n : ℕ) → range_with_len 0 (n + 1) ≡ range_with_len 0 n ++ n ∷ []
-counting_more n = sym (map-id (range_with_len 0 (n + 1))) ∙ map-range_with_len_more (λ x. x) 0 n n (omega arith) ∙ ap (λ l. l ++ n ∷ []) (map-id (range_with_len 0 n))
 
 positions_more : (marks : List Bool) (n : ℕ) → kept_positions marks (n + 1) ≡ kept_positions marks n ++ cond (mark_at marks n) (n ∷ []) []
 positions_more marks n = ap (filter (mark_at marks)) (counting_more n) ∙ filter-append (mark_at marks) (range_with_len 0 n) (n ∷ [])
@@ -29,7 +23,7 @@ module _ (texts names : List (List ℕ)) where
   kept_before_more marks n =
       let front = kept_positions marks n in
       let last : List ℕ = cond (mark_at marks n) (n ∷ []) [] in
-      ap (λ ps. meant texts (names_at names ps)) (positions_more marks n) ∙ ap (meant texts) (map-append (text_at names) front last) ∙ joined_append (λ n. optional (column_named texts n)) (names_at names front) (names_at names last)
+      ap (λ ps. meant texts (names_at names ps)) (positions_more marks n) ∙ ap (meant texts) (map-append (text_at names) front last) ∙ flat_map-append (λ n. optional (column_named texts n)) (names_at names front) (names_at names last)
       ∙ ap (λ l. kept_before texts names marks n ++ l) (one_more n (mark_at marks n))
 
   kept_same : (p q : ℕ → Bool) (a n : ℕ) → ((k : ℕ) → k < a + n → p k ≡ q k) → filter p (range_with_len a n) ≡ filter q (range_with_len a n)

@@ -2,6 +2,8 @@
 use Rattle.std.proofs.Common.{◌≡◌, ℕ, zero, suc, ◌+◌, ◌<◌, ◌≤◌, Bool, true, false, cond, ◌||◌, eqb, List, [], ◌∷◌, ◌++◌, is_some, Some, None, filter, Option, sym, refl, ap, ◌∙◌, subst, ⊎_elim, arith}
 use Rattle.std.specs.List.{range_with_len, flat_map, AllByRecursion, list_all}
 use Rattle.std.specs.Option.{option_map}
+use Rattle.std.proofs.lemmas.List.{map-id}
+use Rattle.std.proofs.lemmas.List.FromFn.{map-range_with_len_more}
 use Rattle.std.proofs.ByRecursion.{All-append, all_kept_by, kept_by_passes}
 use Rattle.std.proofs.lemmas.Bool.{false≢true, or_cases, or_left, or_right, and_parts, cases_eq, eq-eqb, eqb-true}
 use Rattle.columns.specs.Columns.{is_listed, first_place}
@@ -74,3 +76,6 @@ pub counting_lists : (a n c : ℕ) → a ≤ c → c < a + n → is_listed (rang
 counting_lists a zero c low high = absurd (omega arith)
 counting_lists a (suc n) c low high =
     listed_cons a (range_with_len (a + 1) n) c ∙ ⊎_elim (λ e. or_left (eqb a c) _ (eq-eqb a c e)) (λ ne. or_right (eqb a c) _ (counting_lists (a + 1) n c (omega arith) (omega arith))) (cases_eq a c)
+
+pub counting_more : (n : ℕ) → range_with_len 0 (n + 1) ≡ range_with_len 0 n ++ n ∷ []
+counting_more n = sym (map-id (range_with_len 0 (n + 1))) ∙ map-range_with_len_more (λ x. x) 0 n n (omega arith) ∙ ap (λ l. l ++ n ∷ []) (map-id (range_with_len 0 n))

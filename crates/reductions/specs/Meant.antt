@@ -2,9 +2,8 @@
 use Rattle.std.specs.Prelude.{ℕ, Bool, List, [], map, is_some, Option, slice_index_or}
 use Rattle.std.specs.List.{list_all}
 use Rattle.std.specs.Str.{bytes_eq}
-use Rattle.names.specs.declared.name.FullName.{FullName}
+use Rattle.names.specs.Names.{FullName, text_of}
 use Rattle.names.specs.FirstPlaces.{first_where, first_places}
-use Rattle.names.specs.Names.{full_text_of}
 use Rattle.schemas.specs.declared.dfschema.DFSchema.{DFSchema}
 use Rattle.schemas.specs.Schemas.{fields_of, full_name_in}
 
@@ -14,7 +13,7 @@ texts_of s = map full_name_in (fields_of s)
 
 -- the texts of the names that a caller gives
 abbrev pub names_of : List FullName → List (List ℕ)
-names_of ns = map full_text_of ns
+names_of ns = map text_of ns
 
 -- a name means the first column that has it
 abbrev pub column_named : List (List ℕ) → List ℕ → Option ℕ

@@ -1,8 +1,7 @@
 -- The reduction of sort entries.
 use Rattle.std.specs.Prelude.{◌≡◌, ℕ, ◌<◌, Bool, false, not, List, map, length, Some, None, filter, slice_index_or}
 use Rattle.std.specs.List.{range_with_len}
-use Rattle.names.specs.declared.name.FullName.{FullName}
-use Rattle.names.specs.Names.{full_text_of}
+use Rattle.names.specs.Names.{FullName, text_of}
 use Rattle.columns.specs.Columns.{is_listed}
 use Rattle.dependencies.specs.Model.{Dep}
 use Rattle.reductions.specs.declared.sort.SortExpr.{SortExpr}
@@ -15,7 +14,7 @@ abbrev pub sorted_by : SortExpr → FullName
 sorted_by e = e.name
 
 abbrev pub sort_name : SortExpr → List ℕ
-sort_name e = full_text_of e.name
+sort_name e = text_of e.name
 
 abbrev pub sort_mark : SortExpr → Bool
 sort_mark e = e.kept

@@ -1,29 +1,29 @@
-ghost use Rattle.std.specs.Prelude.{◌≡◌, map};
+ghost use Rattle.std.specs.Prelude.{◌≡◌, ℕ, Bool, map};
+ghost use Rattle.bounded.specs.Calls.{Computes};
 ghost use Rattle.dependencies.specs.View.{dep_of};
 ghost use Rattle.reductions.specs.Determined.{determined_by, is_determined};
 
-use columns::filter::Predicate;
 use dependencies::functional_dependencies::FunctionalDependence;
 
 // whether the column is a target of the dependency, whose sources are all known
-fn determines<P: Predicate>(dependency: &FunctionalDependence, known: &P, column: u16) -> bool
-    ensures { result ≡ determined_by (P.passes known.now) column (dep_of dependency.now) }
+fn determines<F: Fn(u16) -> bool>(dependency: &FunctionalDependence, known: &F, column: u16) -> bool
+    requires { F.IsAlwaysCallable known.now }
+    ensures { (p : ℕ → Bool) → Computes (λ c b. F.post known.now c b) p → result ≡ determined_by p column (dep_of dependency.now) }
 {
-    dependency.target_indices().contains(column) && dependency.source_indices().all_pass(known)
+    dependency.target_indices().contains(column)
+        && dependency.source_indices().all_pass(|source| known(source))
 }
 
 /// Whether the column is a target of one dependency whose sources are all known.
-pub fn is_determined<P: Predicate>(
+pub fn is_determined<F: Fn(u16) -> bool>(
     dependencies: &[FunctionalDependence],
-    known: &P,
+    known: F,
     column: u16,
 ) -> bool
-    ensures { result ≡ is_determined (P.passes known.now) (map dep_of dependencies.now) column }
+    requires { F.IsAlwaysCallable known }
+    ensures { (p : ℕ → Bool) → Computes (λ c b. F.post known c b) p → result ≡ is_determined p (map dep_of dependencies.now) column }
 {
-    for dependency in dependencies {
-        if determines(dependency, known, column) {
-            return true;
-        }
-    }
-    false
+    dependencies
+        .iter()
+        .any(|dependency| determines(dependency, &known, column))
 }

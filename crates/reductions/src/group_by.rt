@@ -45,15 +45,6 @@ pub fn get_required_group_by_exprs_indices(
     ensures kept_decide { IfOk result (λ o. IfSome o (λ l. KeptDecide (texts_of schema.now) (dependencies_of schema.now) (names_of group_by_expr_names.now) (columns_of l))) }
     ensures positions_asked { IfOk result (λ o. IfSome o (λ l. PositionsIn (names_of group_by_expr_names.now) (columns_of l))) }
 {
-    required_indices(schema, group_by_expr_names)
-}
-
-fn required_indices(
-    schema: &DFSchema,
-    group_by_expr_names: &[FullName],
-) -> Result<Option<ColumnList>, Refusal>
-    ensures { Answers result (oversize_over 64 group_by_expr_names.now) (λ o. option_map columns_of o ≡ required (texts_of schema.now) (dependencies_of schema.now) (names_of group_by_expr_names.now)) }
-{
     if group_by_expr_names.len() > MAX_COLUMNS {
         return Err(Refusal::Oversize);
     }
@@ -63,7 +54,7 @@ fn required_indices(
         return Ok(None);
     }
     let all = ColumnList::all(field_names.len())?;
-    let asked = sorted(&columns, &all, field_names.len());
+    let asked = sorted(&columns, field_names.len());
     let dependencies = schema.functional_dependencies().as_slice();
     let required = names_at(field_names.as_slice(), &reduce(asked, dependencies, &all));
     Ok(Some(places(group_by_expr_names, required.as_slice())))

@@ -1,22 +1,13 @@
-use Rattle.std.proofs.Common.{◌≡◌, List, length, IfOk, None, Ok, Err, Option, Result, sym, subst, arith}
+use Rattle.std.proofs.Common.{◌≡◌, ◌≤◌, map, length, rules, sym, ap, ◌∙◌, subst, arith}
 use Rattle.std.proofs.lemmas.List.{length-map}
-use Rattle.names.specs.declared.error.Refusal.{Refusal}
-use Rattle.names.specs.Names.{full_text_of}
-use Rattle.names.specs.Refusals.{Answers}
-use Rattle.dependencies.specs.declared.functional_dependencies.FunctionalDependencies.{FunctionalDependencies}
-use Rattle.dependencies.specs.Model.{Dep}
+use Rattle.names.specs.Names.{text_of}
 use Rattle.dependencies.specs.Tables.{Valid}
-use Rattle.dependencies.specs.View.{deps_of}
+use Rattle.dependencies.specs.View.{dep_of, deps_of}
 use Rattle.schemas.specs.Schemas.{fields_of, dependencies_of}
 use Rattle.reductions.specs.Meant.{texts_of, names_of}
-use Rattle.aggregates.specs.Aggregates.{aggregate_refusal, aggregated}
-use Rattle.aggregates.proofs.Keyed.{aggregated_valid, few_names}
+use Rattle.aggregates.specs.Aggregates.{aggregated}
+use Rattle.aggregates.proofs.Keyed.{aggregated_valid}
 use Rattle.aggregates.proofs.aggregate.aggregate_functional_dependencies.Goals as goal
-
--- what holds of the defined set where the call is not refused holds of the one that is answered
-law : (r : Result FunctionalDependencies Refusal) (refusal : Option Refusal) (ds : List Dep) (P : List Dep → Type 0) → Answers r refusal (λ d. deps_of d ≡ ds) → (refusal ≡ None → P ds) → IfOk r (λ d. P (deps_of d))
-law (Ok d) refusal ds P h p = subst P (sym h.1) (p h.0)
-law (Err e) refusal ds P h p = tt
 
 pub returns : goal.returns
 returns c =
@@ -25,7 +16,9 @@ returns c =
     let texts = texts_of c.args.aggr_input_schema.now in
     let ds = dependencies_of c.args.aggr_input_schema.now in
     let outs = fields_of c.args.aggr_schema.now in
-    record {
-      answer = c.aggregate.ensures;
-      valid_for_output = law c.aggregate.result (aggregate_refusal given outs) (aggregated texts ds names outs) (Valid (length outs)) c.aggregate.ensures (λ e. aggregated_valid texts ds names outs (omega (arith, few_names given outs e, length-map given full_text_of)));
-    }
+    let same_outs = c.fields-fields.ensures.value in
+    let few : length names ≤ length outs = omega (arith, length-map given text_of, ap length same_outs, c.if-count-fields.false) in
+    let same_texts : map text_of c.as_slice.result.now ≡ texts = ap (map text_of) c.as_slice.ensures.value ∙ c.field_names-field_names.ensures in
+    let same_ds : map dep_of c.as_slice-2.result.now ≡ ds = c.as_slice-2.ensures.value ∙ c.functional_dependencies.ensures in
+    let same : deps_of c.aggregated.result ≡ aggregated texts ds names outs = c.aggregated.ensures ∙ (λ i. aggregated (same_texts i) (same_ds i) names (same_outs i)) in
+    record { answer = (search rules, same); valid_for_output = subst (Valid (length outs)) (sym same) (aggregated_valid texts ds names outs few) }
