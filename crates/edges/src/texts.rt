@@ -107,6 +107,7 @@ fn first_position_of_a_name_is_the_least(rt: HostRuntime) -> Result<(), Fail> {
     Ok(())
 }
 
+// The refusals are written out, not converted: they are the expected values.
 #[test]
 fn each_refusal_has_its_number_and_word(rt: HostRuntime) -> Result<(), Fail> {
     let name = Name::new(&[b'c'; 32])?;

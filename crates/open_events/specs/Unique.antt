@@ -1,12 +1,8 @@
 -- When the dependencies of a relation say that a column is unique.
-use Rattle.std.specs.Prelude.{ℕ, Bool, true, false, not, ◌&&◌, List, length, ◌==◌, slice_index}
-use Rattle.std.specs.List.{list_all}
+use Rattle.std.specs.Prelude.{ℕ, Bool, true, false, ◌&&◌, length, ◌==◌, slice_index}
 use Rattle.dependencies.specs.Model.{Dep}
 use Rattle.dependencies.specs.declared.functional_dependencies.Dependency.{Dependency}
 use Rattle.dependencies.specs.declared.functional_dependencies.Dependency.TheVariants.{Single, Multi}
-
-abbrev pub some_passes : {X : Type 0} → (X → Bool) → List X → Bool
-some_passes p xs = not (list_all (λ x. not (p x)) xs)
 
 abbrev pub is_single : Dependency → Bool
 is_single Single = true

@@ -1,10 +1,10 @@
 ghost use Rattle.std.specs.Prelude.{◌≡◌, map, length, IfOk, vec_len};
-ghost use Rattle.std.specs.List.{range_with_len};
+ghost use Rattle.std.specs.List.{range_with_len, list_any};
 ghost use Rattle.constraints.specs.View.{key_of};
 ghost use Rattle.dependencies.specs.Joins.{joined};
 ghost use Rattle.dependencies.specs.Keys.{key_dependency};
 ghost use Rattle.dependencies.specs.View.{dep_of, deps_of};
-ghost use Rattle.open_events.specs.Unique.{some_passes, is_key_on};
+ghost use Rattle.open_events.specs.Unique.{is_key_on};
 
 use columns::column_list::ColumnList;
 use constraints::constraints::{Constraint, Constraints};
@@ -76,20 +76,15 @@ impl Relation {
                 columns.extend_from_slice(self.columns.as_slice())?;
                 columns.extend_from_slice(right.columns.as_slice())?;
             }
-            JoinType::LeftSemi | JoinType::LeftAnti => columns.extend_from_slice(
-                self.columns.as_slice(),
-            )?,
-            JoinType::RightSemi | JoinType::RightAnti => columns.extend_from_slice(
-                right.columns.as_slice(),
-            )?,
-            JoinType::LeftMark => {
+            JoinType::LeftSemi | JoinType::LeftAnti | JoinType::LeftMark => {
                 columns.extend_from_slice(self.columns.as_slice())?;
-                columns.push(Column::new_unqualified(Name::new(b"mark")?))?;
             }
-            JoinType::RightMark => {
+            JoinType::RightSemi | JoinType::RightAnti | JoinType::RightMark => {
                 columns.extend_from_slice(right.columns.as_slice())?;
-                columns.push(Column::new_unqualified(Name::new(b"mark")?))?;
             }
+        }
+        if matches!(join_type, JoinType::LeftMark | JoinType::RightMark) {
+            columns.push(Column::new_unqualified(Name::new(b"mark")?))?;
         }
         Ok(Relation {
             columns,
@@ -99,13 +94,11 @@ impl Relation {
 
     /// Whether a dependency says that no two rows have one value in that column.
     pub fn is_unique(&self, column: u16) -> bool
-        ensures { result ≡ some_passes (is_key_on column) (deps_of self.now.dependencies) }
+        ensures { result ≡ list_any (is_key_on column) (deps_of self.now.dependencies) }
     {
-        for dependence in self.dependencies.as_slice() {
-            if is_key_on(dependence, column) {
-                return true;
-            }
-        }
-        false
+        self.dependencies
+            .as_slice()
+            .iter()
+            .any(|dependence| is_key_on(dependence, column))
     }
 }

@@ -14,7 +14,7 @@ fn listed<W: fmt::Write>(
         if i > 0 {
             write!(f, ", ")?;
         }
-        match columns.get(*number as usize) {
+        match columns.get(usize::from(*number)) {
             Some(column) => write!(f, "{column}")?,
             None => write!(f, "column {number}")?,
         }
@@ -53,7 +53,7 @@ impl fmt::Display for Relation {
             write!(f, "{column}")?;
         }
         writeln!(f, "")?;
-        if self.dependencies.len() == 0 {
+        if self.dependencies.as_slice().is_empty() {
             writeln!(f, "  no columns fix others")?;
         }
         for dependence in self.dependencies.as_slice() {

@@ -16,6 +16,7 @@ fn named(fields: &[Field], name: &[u8]) -> Result<Column, Refusal> {
     )
 }
 
+// written out, not converted, as all expected refusals here
 fn unknown(column: Column) -> Refusal {
     let field = MissingField::Column(column);
     Refusal::Schema(SchemaError::FieldNotFound { field })

@@ -23,6 +23,7 @@ pub(crate) fn field(column: Column) -> Field {
     }
 }
 
+// written out, not converted, as all expected refusals here
 fn twice_qualified() -> Result<Refusal, Refusal> {
     let qualifier = TableReference::bare(Name::new(b"t")?);
     let name = Name::new(b"a")?;
