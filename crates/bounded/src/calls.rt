@@ -6,6 +6,7 @@ ghost use Rattle.bounded.specs.View.{list_of};
 
 use crate::list::Bounded;
 
+// Each has a `requires`: the language asks it of a function that calls a parameter.
 impl<T: Copy, const N: usize> Bounded<T, N> {
     /// What `f` makes of each value, in order; `fill` stands in the places that hold no value.
     pub fn map<U: Copy, F: Fn(T) -> U>(&self, fill: U, f: F) -> Bounded<U, N>

@@ -31,8 +31,7 @@ impl Constraint {
         ensures { columns_of result.now ≡ key_columns (key_of self.now) }
     {
         match self {
-            Constraint::PrimaryKey(columns) => columns,
-            Constraint::Unique(columns) => columns,
+            Constraint::PrimaryKey(columns) | Constraint::Unique(columns) => columns,
         }
     }
 

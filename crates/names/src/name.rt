@@ -23,6 +23,7 @@ pub type Name = Text<NAME_BYTES>;
 /// A column's name with the parts of its reference: at most 131 bytes.
 pub type FullName = Text<FULL_NAME_BYTES>;
 
+// Calls of `Bounded`, as each list has them in its own crate.
 impl<const N: usize> Text<N> {
     pub fn empty() -> Self
         ensures { text_of result ≡ [] }

@@ -12,6 +12,7 @@ use names::error::Refusal;
 use names::name::FullName;
 use schemas::dfschema::DFSchema;
 
+// A mark beside the name: the caller lends its list of records, and the mark is written into each.
 /// An entry of the caller's list of sort expressions: its name, and whether the order needs it.
 #[derive(Clone, Copy)]
 pub struct SortExpr {
