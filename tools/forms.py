@@ -84,7 +84,7 @@ for path, text in files.items():
                         break
                     inner.append(later)
                 if any(re.match(r"\s*return ", later) and "Err(" not in later for later in inner):
-                    rows["3c a loop that returns at the first hit"].append((path, n + i, line.strip()))
+                    rows["3c a loop that returns at the first hit"].append((path, n + len(head) + 1 + i, line.strip()))
 
 # 2: functions that are alike but for types, numbers and constants
 def shape(lines):
