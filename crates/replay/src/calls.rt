@@ -186,21 +186,21 @@ fn merge(case: &mut Case) -> Reading<Answer> {
 fn index_of_column_by_name(case: &mut Case) -> Reading<Answer> {
     let columns = case.columns()?;
     let reference = case.reference()?;
-    let name = case.name()?;
+    let name = case.text()?;
     case.end()?;
     Ok(Answer::Position(columns.index_of_column_by_name(reference, &name)))
 }
 
 fn field_with_unqualified_name(case: &mut Case) -> Reading<Answer> {
     let columns = case.columns()?;
-    let name = case.name()?;
+    let name = case.text()?;
     case.end()?;
     Ok(Answer::Field(columns.qualified_field_with_unqualified_name(&name)?))
 }
 
 fn full_name(case: &mut Case) -> Reading<Answer> {
     let reference = case.reference()?;
-    let name = case.name()?;
+    let name = case.text()?;
     case.end()?;
     Ok(Answer::FullName(qualified_name(reference.as_ref(), &name)))
 }

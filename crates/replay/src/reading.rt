@@ -9,7 +9,7 @@ use dependencies::functional_dependencies::{
 use join_type::{JOIN_TYPES, JoinType};
 use names::column::Column;
 use names::error::Refusal;
-use names::name::{FullName, Name};
+use names::name::{FULL_NAME_BYTES, FullName, Text};
 use names::table_reference::TableReference;
 use schemas::dfschema::{DFSchema, Field, Kind};
 use std::alloc::{AllocError, AllocFailed, Global};
@@ -158,24 +158,20 @@ impl<'a> Case<'a> {
             .try_collect(self.heap)
     }
 
-    pub fn name(&mut self) -> Reading<Name> {
-        Ok(Name::new(self.bytes()?.as_slice())?)
-    }
-
-    fn text(&mut self) -> Reading<FullName> {
-        Ok(FullName::new(self.bytes()?.as_slice())?)
+    pub fn text<const N: usize>(&mut self) -> Reading<Text<N>> {
+        Ok(Text::new(self.bytes()?.as_slice())?)
     }
 
     pub fn texts(&mut self) -> Reading<Vec<FullName>> {
-        self.list(Case::text)
+        self.list(Case::text::<FULL_NAME_BYTES>)
     }
 
     pub fn reference(&mut self) -> Reading<Option<TableReference>> {
         match self.word()? {
             "n" => Ok(None),
-            "b" => Ok(Some(TableReference::bare(self.name()?))),
-            "p" => Ok(Some(TableReference::partial(self.name()?, self.name()?))),
-            "f" => Ok(Some(TableReference::full(self.name()?, self.name()?, self.name()?))),
+            "b" => Ok(Some(TableReference::bare(self.text()?))),
+            "p" => Ok(Some(TableReference::partial(self.text()?, self.text()?))),
+            "f" => Ok(Some(TableReference::full(self.text()?, self.text()?, self.text()?))),
             word => Err(unfit("a reference, n, b, p or f", word)),
         }
     }
@@ -198,7 +194,7 @@ impl<'a> Case<'a> {
 
     fn field(&mut self) -> Reading<Field> {
         Ok(Field {
-            column: Column::new(self.reference()?, self.name()?),
+            column: Column::new(self.reference()?, self.text()?),
             kind: self.kind()?,
             nullable: self.flag()?,
         })
@@ -235,10 +231,9 @@ impl<'a> Case<'a> {
     pub fn schema(&mut self) -> Reading<DFSchema> {
         let columns = self.columns()?;
         let dependencies = self.dependencies()?;
-        match columns.with_functional_dependencies(dependencies) {
-            Ok(schema) => Ok(schema),
-            Err(_) => Err(anyhow!("a dependency of a schema lists a column that it lacks").into()),
-        }
+        columns.with_functional_dependencies(dependencies).map_err(|_| anyhow!(
+            "a dependency of a schema lists a column that it lacks"
+        ).into())
     }
 
     fn key(&mut self) -> Reading<Constraint> {
