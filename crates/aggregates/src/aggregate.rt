@@ -26,7 +26,7 @@ impl Grouping<'_> {
     {
         let column_names = names_at(self.field_names, columns);
         let places = ColumnList::all(self.names.len()).unwrap();
-        places.filter(|place| is_among(self.names, column_names.as_slice(), place))
+        places.filter_by(|place| is_among(self.names, column_names.as_slice(), place))
     }
 
     // whether as many names match as there are sources, and each source's name is among the names
@@ -35,7 +35,7 @@ impl Grouping<'_> {
     {
         let sources = dependency.source_indices();
         self.matched_places(sources).len() == sources.len()
-            && sources.all_pass(|column| is_among(self.field_names, self.names, column))
+            && sources.all_pass_by(|column| is_among(self.field_names, self.names, column))
     }
 
     // whether the names at those places have targets, the same as all names have

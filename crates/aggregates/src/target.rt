@@ -14,7 +14,7 @@ use crate::grouping::Grouping;
 use columns::column_list::{ColumnList, MAX_COLUMNS};
 use names::error::Refusal;
 use names::name::FullName;
-use reductions::determined::is_determined;
+use reductions::determined::is_determined_by;
 use reductions::named::place_of;
 use schemas::dfschema::DFSchema;
 
@@ -32,8 +32,8 @@ impl Grouping<'_> {
         ensures { columns_of result ≡ target_columns (texts_in self.now) (deps_in self.now) (names_in self.now) }
     {
         let columns = ColumnList::all(self.field_names.len()).unwrap();
-        columns.filter(|column| {
-            is_determined(
+        columns.filter_by(|column| {
+            is_determined_by(
                 self.dependencies,
                 |source| is_among(self.field_names, self.names, source),
                 column,

@@ -1,7 +1,6 @@
-ghost use Rattle.std.specs.Prelude.{◌≡◌, ℕ, List, refl, ◌+◌, ◌<◌, ◌≤◌, [], ◌∷◌, ◌++◌, length, Decides, true, false, MatchOption, MatchResult, ◌==◌, ◌≢◌, slice_index, nat_eq};
+ghost use Rattle.std.specs.Prelude.{◌≡◌, ℕ, List, refl, ◌+◌, ◌<◌, ◌≤◌, [], ◌∷◌, ◌++◌, length, Decides, true, false, MatchOption, ◌==◌, ◌≢◌, slice_index, nat_eq};
 ghost use Rattle.std.specs.List.{range_with_len, AllWithin, list_all, AllByRecursion};
 ghost use Rattle.names.specs.Refusals.{Answers, AnswersOr, oversize_over};
-ghost use Rattle.names.specs.declared.error.Refusal.TheVariants.{Overrun};
 ghost use Rattle.columns.specs.Columns.{fits, columns_of, oversize_width, full_at, oversize_together, overrun_at, places, is_listed, shifted};
 ghost use Rattle.std.proofs.Common.{rules};
 ghost use Rattle.std.specs.Cmp.Lexicographic.{pointwise, nat_list_eq_equiv};
@@ -20,14 +19,13 @@ pub struct ColumnList {
     pub(crate) columns: Bounded<u16, MAX_COLUMNS>,
 }
 
-// the column number with the offset added
-fn moved(column: u16, offset: usize) -> Result<u16, Refusal>
-    ensures { MatchResult result (λ c. (c ≡ column + offset) × (fits offset column ≡ true)) (λ e. (e ≡ Overrun) × (fits offset column ≡ false)) }
+// the column number with the offset added, where there is one
+fn moved(column: u16, offset: usize) -> Option<u16>
+    ensures { MatchOption result (fits offset column ≡ false) (λ c. (c ≡ column + offset) × (fits offset column ≡ true)) }
 {
     usize::from(column)
         .checked_add(offset)
         .and_then(|sum| u16::try_from(sum).ok())
-        .ok_or(Refusal::Overrun)
 }
 
 // What the lists of columns, keys and dependencies have alike is in `Bounded`: these calls of it stand in each list's own
@@ -146,7 +144,14 @@ impl ColumnList {
     pub fn add_offset(&mut self, offset: usize) -> Result<(), Refusal>
         ensures { AnswersOr result (overrun_at offset (columns_of self.old)) (λ _. columns_of self.new ≡ shifted offset (columns_of self.old)) (self.new ≡ self.old) }
     {
-        self.columns = self.columns.try_map(0, |column| moved(column, offset))?;
+        // a copy that is emptied: it costs less than places that are filled anew
+        let mut shifted = self.columns;
+        shifted.truncate(0);
+        for column in self.as_slice() {
+            // there is room: one is pushed for each
+            let _ = shifted.push(moved(*column, offset).ok_or(Refusal::Overrun)?);
+        }
+        self.columns = shifted;
         Ok(())
     }
 }

@@ -1,5 +1,5 @@
 -- What `==` says of dependencies is the test of the views; these tests are equivalences, and decide whether the views are equal.
-use Rattle.std.specs.Prelude.{◌≡◌, Bool, true, false, ◌&&◌, Decides, nat_eq, refl}
+use Rattle.std.specs.Prelude.{◌≡◌, Bool, true, false, ◌&&◌, List, Decides, nat_eq, refl}
 use Rattle.std.proofs.Common.{◌∙◌, sym, ap, subst}
 use Rattle.std.specs.Bool.{beq}
 use Rattle.std.specs.Cmp.{IsEquivalence, and_equiv, on_equiv, bool_eq_equiv, booleans_Decides}
@@ -27,18 +27,21 @@ same_dep_equiv =
 pub same_deps_equiv : IsEquivalence same_deps
 same_deps_equiv = lists_equiv same_dep_equiv
 
-modes_decide : (a b : Dependency) → Decides (beq (occurs_once a) (occurs_once b)) (a ≡ b)
+pub modes_decide : (a b : Dependency) → Decides (beq (occurs_once a) (occurs_once b)) (a ≡ b)
 modes_decide Single Single = ((λ _. refl), λ _. refl)
 modes_decide Single Multi = ((λ e. absurd (false≢true e)), λ e. cc)
 modes_decide Multi Single = ((λ e. absurd (false≢true e)), λ e. cc)
 modes_decide Multi Multi = ((λ _. refl), λ _. refl)
 
-same_dep_decides : (a b : Dep) → Decides (same_dep a b) (a ≡ b)
+pub same_dep_decides : (a b : Dep) → Decides (same_dep a b) (a ≡ b)
 same_dep_decides a b =
     let lists = Decides-and (pointwise nat_eq a.sources b.sources) (pointwise nat_eq a.targets b.targets) (bytes_decides a.sources b.sources) (bytes_decides a.targets b.targets) in
     let marked = Decides-and (pointwise nat_eq a.sources b.sources && pointwise nat_eq a.targets b.targets) (beq a.nullable b.nullable) lists (booleans_Decides a.nullable b.nullable) in
     Decides-like (same_dep a b) (λ e i. record { sources = e.0.0.0 i; targets = e.0.0.1 i; nullable = e.0.1 i; mode = e.1 i })
     (λ e. ((((λ i. (e i).sources), λ i. (e i).targets), λ i. (e i).nullable), λ i. (e i).mode)) (Decides-and (pointwise nat_eq a.sources b.sources && pointwise nat_eq a.targets b.targets && beq a.nullable b.nullable) (beq (occurs_once a.mode) (occurs_once b.mode)) marked (modes_decide a.mode b.mode))
+
+pub same_deps_decides : (ds es : List Dep) → Decides (same_deps ds es) (ds ≡ es)
+same_deps_decides = pointwise_decides same_dep_decides
 
 mode_eq : (a b : Dependency) → modes.ghosts.eq a b ≡ beq (occurs_once a) (occurs_once b)
 mode_eq Single Single = refl
@@ -68,4 +71,4 @@ pub deps_eq : (a b : FunctionalDependencies) → set.ghosts.eq a b ≡ same_deps
 deps_eq a b = pointwise_map one.ghosts.eq same_dep dep_of dep_eq (list_of a.deps) (list_of b.deps)
 
 pub deps_decide : (a b : FunctionalDependencies) → Decides (set.ghosts.eq a b) (deps_of a ≡ deps_of b)
-deps_decide a b = subst (λ r. Decides r (deps_of a ≡ deps_of b)) (sym (deps_eq a b)) (pointwise_decides same_dep_decides (deps_of a) (deps_of b))
+deps_decide a b = subst (λ r. Decides r (deps_of a ≡ deps_of b)) (sym (deps_eq a b)) (same_deps_decides (deps_of a) (deps_of b))

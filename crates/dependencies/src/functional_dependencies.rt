@@ -178,19 +178,21 @@ impl FunctionalDependencies {
     pub fn with_dependency(&mut self, mode: Dependency)
         ensures { deps_of self.new ≡ map (with_mode mode) (deps_of self.old) }
     {
-        let mut turned = Bounded::new(FunctionalDependence::filler());
-        for dependence in self.as_slice() {
+        let unturned = self.deps;
+        self.deps.truncate(0);
+        for dependence in unturned.as_slice() {
             // there is room: one is pushed for each
-            let _ = turned.push(dependence.with_mode(mode));
+            let _ = self.deps.push(dependence.with_mode(mode));
         }
-        self.deps = turned;
     }
 
     /// Moves every list up by the offset, or changes none.
     pub fn add_offset(&mut self, offset: usize) -> Result<(), Refusal>
         ensures { AnswersOr result (overrun_any offset (deps_of self.old)) (λ _. deps_of self.new ≡ map (offset_by offset) (deps_of self.old)) (self.new ≡ self.old) }
     {
-        let mut moved = Bounded::new(FunctionalDependence::filler());
+        // a copy that is emptied: it costs less than places that are filled anew
+        let mut moved = self.deps;
+        moved.truncate(0);
         for dependence in self.as_slice() {
             // there is room: one is pushed for each
             let _ = moved.push(dependence.moved(offset)?);
@@ -204,16 +206,16 @@ impl FunctionalDependencies {
     pub fn downgrade_dependencies(&mut self)
         ensures { deps_of self.new ≡ padded (deps_of self.old) }
     {
-        let mut stays = Bounded::new(FunctionalDependence::filler());
-        for dependence in self.as_slice() {
+        let before = self.deps;
+        self.deps.truncate(0);
+        for dependence in before.as_slice() {
             if dependence.survives_nulls() {
                 // there is room: no more are kept than there are
-                let _ = stays.push(FunctionalDependence {
+                let _ = self.deps.push(FunctionalDependence {
                     nullable: true,
                     ..*dependence
                 });
             }
         }
-        self.deps = stays;
     }
 }

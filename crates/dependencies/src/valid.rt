@@ -6,7 +6,6 @@ ghost use Rattle.dependencies.specs.Tables.{Within, Valid};
 ghost use Rattle.dependencies.specs.View.{dep_of, deps_of};
 
 use crate::functional_dependencies::{Dependency, FunctionalDependence, FunctionalDependencies};
-use bounded::list::Bounded;
 use columns::column_list::{ColumnList, MAX_COLUMNS};
 use names::error::Refusal;
 
@@ -45,12 +44,12 @@ impl FunctionalDependencies {
         ensures { AnswersOr result (oversize_width n_out) (λ _. deps_of self.new ≡ map (targets_over n_out) (deps_of self.old)) (self.new ≡ self.old) }
     {
         let all = ColumnList::all(n_out)?;
-        let mut covering = Bounded::new(FunctionalDependence::filler());
-        for dependence in self.as_slice() {
+        let uncovered = self.deps;
+        self.deps.truncate(0);
+        for dependence in uncovered.as_slice() {
             // there is room: one is pushed for each
-            let _ = covering.push(dependence.covering(all));
+            let _ = self.deps.push(dependence.covering(all));
         }
-        self.deps = covering;
         Ok(())
     }
 }

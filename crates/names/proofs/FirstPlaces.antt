@@ -1,7 +1,7 @@
 -- First positions, as a search finds them.
-use Rattle.std.proofs.Common.{◌≡◌, ℕ, zero, suc, ◌+◌, ◌<◌, ◌≤◌, Bool, true, false, cond, ◌&&◌, eqb, List, [], ◌∷◌, ◌++◌, map, length, get_or, take, is_some, IfSome, Some, None, Decides, Option, sym, refl, ap, ◌∙◌, le_of_suc-le-suc, not-suc-le-zero, arith, MatchOption}
+use Rattle.std.proofs.Common.{◌≡◌, ℕ, zero, suc, ◌+◌, ◌<◌, ◌≤◌, Bool, true, false, cond, ◌&&◌, ◌||◌, eqb, List, [], ◌∷◌, ◌++◌, map, length, get_or, take, is_some, IfSome, Some, None, Decides, Option, sym, refl, ap, ◌∙◌, le_of_suc-le-suc, not-suc-le-zero, arith, MatchOption}
 use Rattle.std.specs.Option.{option_map, option_to_list as optional}
-use Rattle.std.specs.List.{HoldsAt, AllWithin, list_all}
+use Rattle.std.specs.List.{HoldsAt, AllWithin, list_all, list_any}
 use Rattle.std.proofs.lemmas.List.{take_more, flat_map_more, length-append, append-nil}
 use Rattle.std.proofs.lemmas.Bool.{ne_eqb}
 use Rattle.std.proofs.lemmas.Bool.Decides.{nat_tests}
@@ -27,6 +27,15 @@ module _ {X : Type 0} (p : X → Bool) (P : X → Type 0) (decides : (x : X) →
   first_where_is (x ∷ xs) (Some zero) h = ap (λ b. cond b (Some 0) (option_map suc (first_where p xs))) ((decides x).1 (h.1 x))
   first_where_is (x ∷ xs) (Some (suc i)) h =
       step x xs (Some i) (h.2 0 x (omega arith) (omega arith)) (first_where_is xs (Some i) (le_of_suc-le-suc h.0, (λ d. h.1 d), later x xs i h.2))
+
+-- a first one is found where any passes
+pub found_any : {X : Type 0} (p : X → Bool) (xs : List X) → is_some (first_where p xs) ≡ list_any p xs
+found_any p [] = refl
+found_any p (x ∷ xs) = go (p x) (first_where p xs) (found_any p xs) where
+  go : (b : Bool) (r : Option ℕ) → is_some r ≡ list_any p xs → is_some (cond b (Some 0) (option_map suc r)) ≡ (b || list_any p xs)
+  go true r h = refl
+  go false None h = h
+  go false (Some i) h = h
 
 -- the fact that a test of one type tells
 module _ {X : Type 0} (same : X → X → Bool) (y : X) (P : X → Type 0) (decides : (x : X) → Decides (same x y) (P x)) where

@@ -3,6 +3,12 @@ use Rattle.std.proofs.Common.{◌≡◌, ℕ, Bool, true, false, IfOk, Some, Non
 use Rattle.names.specs.declared.error.Refusal.{Refusal}
 use Rattle.names.specs.Refusals.{refused_if, Answers}
 
+-- where one test refuses, another that holds then refuses alike
+pub refused_too : (b b' : Bool) (e given : Refusal) → (b ≡ true → b' ≡ true) → refused_if b e None ≡ Some given → refused_if b' e None ≡ Some given
+refused_too true true e given h r = r
+refused_too true false e given h r = absurd (let z : ◌≡◌ {A = ℕ} 0 1 = cc (h refl) in omega arith)
+refused_too false b' e given h r = absurd (let z : ◌≡◌ {A = ℕ} 0 1 = cc in omega arith)
+
 pub not_refused : (b : Bool) (e : Refusal) → refused_if b e None ≡ None → b ≡ false
 not_refused true e r = absurd (let z : ◌≡◌ {A = ℕ} 0 1 = cc in omega arith)
 not_refused false e r = refl

@@ -14,3 +14,7 @@ Name = Text 32
 -- a column's name with the parts of its reference
 abbrev pub FullName : Type 0
 FullName = Text 131
+
+-- the bytes of a full name, which holds 131
+abbrev pub full_text_of : FullName → List ℕ
+full_text_of n = text_of n

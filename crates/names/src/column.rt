@@ -1,13 +1,13 @@
 ghost use Rattle.std.specs.Prelude.{◌≡◌, None};
 ghost use Rattle.names.specs.Columns.{full_text};
-ghost use Rattle.names.specs.Names.{text_of};
+ghost use Rattle.names.specs.Names.{full_text_of};
 
 use crate::name::{FullName, Name};
 use crate::qualified::qualified_name;
 use crate::table_reference::TableReference;
 
 /// A column by its name, under a table reference or none.
-#[derive(Clone, Copy, PartialEq, Eq, Debug)]
+#[derive(Clone, Copy, PartialEq, Eq)]
 pub struct Column {
     pub relation: Option<TableReference>,
     pub name: Name,
@@ -33,7 +33,7 @@ impl Column {
 
     /// The full name: the parts of the reference and the name, joined by points.
     pub fn flat_name(&self) -> FullName
-        ensures { text_of result ≡ full_text self.now.relation self.now.name }
+        ensures { full_text_of result ≡ full_text self.now.relation self.now.name }
     {
         qualified_name(self.relation.as_ref(), &self.name)
     }

@@ -9,14 +9,14 @@ use crate::table_reference::TableReference;
 use bounded::ops::Full;
 
 /// What was looked for and not found: a column, or a full name as it was given.
-#[derive(Clone, Copy, PartialEq, Eq, Debug)]
+#[derive(Clone, Copy, PartialEq, Eq)]
 pub enum MissingField {
     Column(Column),
     FullName(FullName),
 }
 
 /// What is wrong with the names of a schema, with the column that shows it.
-#[derive(Clone, Copy, PartialEq, Eq, Debug)]
+#[derive(Clone, Copy, PartialEq, Eq)]
 pub enum SchemaError {
     AmbiguousReference {
         field: Column,
@@ -34,7 +34,7 @@ pub enum SchemaError {
 }
 
 /// Why a call is refused. The schema errors are the refusals 5 to 8.
-#[derive(Clone, Copy, PartialEq, Eq, Debug)]
+#[derive(Clone, Copy, PartialEq, Eq)]
 pub enum Refusal {
     Standing,
     Oversize,

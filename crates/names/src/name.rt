@@ -1,9 +1,13 @@
-ghost use Rattle.std.specs.Prelude.{◌≡◌, ◌≤◌, [], length};
+ghost use Rattle.std.specs.Prelude.{◌≡◌, ◌≤◌, Some, [], length};
+ghost use Rattle.std.specs.Cmp.{on_po};
+ghost use Rattle.std.specs.Cmp.Lexicographic.{texts_po};
+ghost use Rattle.names.specs.Order.{by_bytes};
 ghost use Rattle.names.specs.Names.{text_of};
 ghost use Rattle.names.specs.Refusals.{Answers, oversize_over};
 
 use crate::error::Refusal;
 use bounded::list::Bounded;
+use std::cmp::Ordering;
 
 /// The most bytes of one part of a name.
 pub const NAME_BYTES: usize = 32;
@@ -12,7 +16,7 @@ pub const NAME_BYTES: usize = 32;
 pub const FULL_NAME_BYTES: usize = 131;
 
 /// A text of at most `N` bytes, any of them.
-#[derive(Clone, Copy, PartialEq, Eq, PartialOrd, Ord)]
+#[derive(Clone, Copy, PartialEq, Eq, Ord)]
 pub struct Text<const N: usize> {
     pub(crate) bytes: Bounded<u8, N>,
 }
@@ -46,5 +50,16 @@ impl<const N: usize> Text<N> {
         ensures few { length result.now ≤ N }
     {
         self.bytes.as_slice()
+    }
+}
+
+// Not derived: the library orders lists of elements one by one, and lists of bytes by whole words, which `cmp` does.
+impl<const N: usize> PartialOrd for Text<N> {
+    ghost partial_cmp = { λ a b. Some (by_bytes (text_of a) (text_of b)) };
+
+    ghost laws = { on_po text_of texts_po };
+
+    fn partial_cmp(&self, other: &Text<N>) -> Option<Ordering> {
+        Some(self.cmp(other))
     }
 }

@@ -1,7 +1,7 @@
 ghost use Rattle.std.specs.Prelude.{◌≡◌, ◌+◌, ◌≤◌, [], ◌∷◌, ◌++◌, length};
 ghost use Rattle.std.specs.Option.{option_map};
 ghost use Rattle.names.specs.Columns.{full_text, pointed};
-ghost use Rattle.names.specs.Names.{text_of};
+ghost use Rattle.names.specs.Names.{text_of, full_text_of};
 ghost use Rattle.names.specs.References.{parts_of};
 
 use crate::name::{FullName, Name};
@@ -47,7 +47,7 @@ fn prefix(reference: &TableReference) -> FullName
 
 /// The parts of the reference and the name, joined by points.
 pub fn qualified_name(relation: Option<&TableReference>, name: &Name) -> FullName
-    ensures { text_of result ≡ full_text (option_map (λ x. x.now) relation.entry) name.now }
+    ensures { full_text_of result ≡ full_text (option_map (λ x. x.now) relation.entry) name.now }
 {
     match relation {
         Some(reference) => prefix(reference).ended(name),

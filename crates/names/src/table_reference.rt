@@ -8,7 +8,7 @@ use crate::name::Name;
 use bounded::list::Bounded;
 
 /// A table as a query names it.
-#[derive(Clone, Copy, PartialEq, Eq, PartialOrd, Ord, Debug)]
+#[derive(Clone, Copy, PartialEq, Eq, PartialOrd, Ord)]
 pub enum TableReference {
     Bare {
         table: Name,

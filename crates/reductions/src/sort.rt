@@ -5,7 +5,7 @@ ghost use Rattle.reductions.specs.Meant.{texts_of};
 ghost use Rattle.reductions.specs.Sorts.{sorted_by, sort_names, sort_marks, Reduces};
 ghost use Rattle.reductions.specs.SortLaws.{ComparesAlike};
 
-use crate::determined::is_determined;
+use crate::determined::is_determined_by;
 use crate::named::place_of;
 use columns::column_list::{ColumnList, MAX_COLUMNS};
 use names::error::Refusal;
@@ -42,7 +42,7 @@ pub fn get_required_sort_exprs_indices(
             continue;
         };
         let column = place as u16;
-        sort_expr.kept = !is_determined(dependencies, |source| known.contains(source), column);
+        sort_expr.kept = !is_determined_by(dependencies, |source| known.contains(source), column);
         if sort_expr.kept {
             // there is room: at most one is pushed for each of at most 64
             let _ = known.push(column);

@@ -1,11 +1,13 @@
 ghost use Rattle.std.specs.Prelude.{◌≡◌, Some, None, Decides, MatchResult};
 ghost use Rattle.std.specs.List.{list_any};
+ghost use Rattle.names.specs.Columns.{column_of};
 ghost use Rattle.schemas.specs.Lookups.{RelationFits, Means, SomeMeant, FirstMeant, unknown_column, has_name, has_qualified_name, has_column};
 ghost use Rattle.schemas.specs.Schemas.{fields_of};
 
 use crate::dfschema::{DFSchema, Field};
 use names::column::Column;
 use names::error::{MissingField, Refusal, SchemaError};
+use names::first::{SameAs, first_position};
 use names::name::Name;
 use names::table_reference::TableReference;
 
@@ -15,7 +17,34 @@ impl Field {
         ensures { Decides result (Means qualifier.now name.now self.now) }
     {
         self.column.name == *name
-            && qualifier.is_none_or(|q| self.column.relation.is_some_and(|r| q.resolved_eq(&r)))
+            && qualifier.as_ref().is_none_or(|q| self
+                .column
+                .relation
+                .as_ref()
+                .is_some_and(|r| q.resolved_eq(r)))
+    }
+}
+
+// a column as a query names it
+#[derive(Drop)]
+struct Lookup<'a> {
+    relation: &'a Option<TableReference>,
+    name: &'a Name,
+}
+
+impl<'a> SameAs<Lookup<'a>> for Field {
+    ghost is_same = { λ f l. Means l.relation.now l.name.now f };
+
+    fn same_as(&self, other: &Lookup<'a>) -> bool {
+        self.is_meant(other.relation, other.name)
+    }
+}
+
+impl SameAs<Column> for Field {
+    ghost is_same = { λ f c. column_of f.column ≡ column_of c };
+
+    fn same_as(&self, other: &Column) -> bool {
+        self.column == *other
     }
 }
 
@@ -36,9 +65,11 @@ impl DFSchema {
     ) -> Option<usize>
         ensures { FirstMeant qualifier name.now (fields_of self.now) result }
     {
-        self.fields()
-            .iter()
-            .position(|field| field.is_meant(&qualifier, name))
+        let lookup = Lookup {
+            relation: &qualifier,
+            name,
+        };
+        first_position(self.fields(), &lookup)
     }
 
     pub fn maybe_index_of_column(&self, col: &Column) -> Option<usize>
@@ -72,8 +103,11 @@ impl DFSchema {
     pub fn has_column_with_qualified_name(&self, qualifier: &TableReference, name: &Name) -> bool
         ensures { result ≡ list_any (has_qualified_name qualifier.now name.now) (fields_of self.now) }
     {
-        let column = Column::new(Some(*qualifier), *name);
-        self.fields().iter().any(|field| field.column == column)
+        let column = Column {
+            relation: Some(*qualifier),
+            name: *name,
+        };
+        first_position(self.fields(), &column).is_some()
     }
 
     /// Whether a column has that reference and name; without a reference, whether one has that name.

@@ -12,8 +12,14 @@ impl DFSchema {
         ensures answer { AnswersOr result (oversize_over 64 (merged (fields_of self.old) (fields_of other_schema.now))) (λ _. (fields_of self.new ≡ merged (fields_of self.old) (fields_of other_schema.now)) × (dependencies_of self.new ≡ dependencies_of self.old)) (self.new ≡ self.old) }
         ensures first_columns_stay { take (length (fields_of self.old)) (fields_of self.new) ≡ fields_of self.old }
     {
-        let mut added = other_schema.fields;
-        added.retain(|field| !self.has_column(&field.column));
-        Ok(self.fields.extend_from_slice(added.as_slice())?)
+        let mut fields = self.fields;
+        // a `for` loop, which stops at the first field that has no room
+        for field in other_schema.fields() {
+            if !self.has_column(&field.column) {
+                fields.push(*field)?;
+            }
+        }
+        self.fields = fields;
+        Ok(())
     }
 }

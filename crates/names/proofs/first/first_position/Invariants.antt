@@ -1,6 +1,5 @@
-use Rattle.std.proofs.Common.{◌≡◌, true}
 use Rattle.std.specs.List.{AllWithin}
 use Rattle.names.proofs.first.first_position.Given as goal
 
 abbrev pub invariant-loop-i : goal.invariant-loop-i
-invariant-loop-i g l = AllWithin (λ y. ¬ (g.T.PartialEq.eq y l.x ≡ true)) l.list 0 l.i
+invariant-loop-i g l = AllWithin (λ y. ¬ g.T.SameAs.is_same y l.x) l.list 0 l.i

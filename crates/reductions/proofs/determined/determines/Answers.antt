@@ -7,4 +7,4 @@ use Rattle.reductions.proofs.determined.determines.Goals as goal
 pub returns-then-contains : goal.returns-then-contains
 returns-then-contains g c = λ p says.
     let target = c.if-contains.ensures ∙ ap (λ l. is_listed l c.args.column) c.target_indices.ensures in
-    c.all_pass.ensures p (λ x b q. search (rules, says)) ∙ ap (list_all p) c.source_indices.ensures ∙ ap (λ b. b && list_all p (dep_of c.args.dependency.now).sources) target
+    c.all_pass_by.ensures p (λ x b q. search (rules, says)) ∙ ap (list_all p) c.source_indices.ensures ∙ ap (λ b. b && list_all p (dep_of c.args.dependency.now).sources) target

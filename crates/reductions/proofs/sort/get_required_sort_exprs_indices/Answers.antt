@@ -35,8 +35,8 @@ loop-sort_expr-preserved c =
     let inside : c.loop-sort_expr.sort_expr-index < length c.loop-sort_expr.sort_exprs = omega (arith, c.loop-sort_expr-test.true, c.loop-sort_expr.auto.sort_exprs) in
     let column = c.in-Some.place in
     let means : column_named texts name ≡ Some column = sym c.in-Some.ensures.found in
-    let determined : c.is_determined.result ≡ is_determined (is_listed known) ds column = c.is_determined.ensures (is_listed known) (λ x b k. search rules) in
-    let kept = not c.is_determined.result in
+    let determined : c.is_determined_by.result ≡ is_determined (is_listed known) ds column = c.is_determined_by.ensures (is_listed known) (λ x b k. search rules) in
+    let kept = not c.is_determined_by.result in
     let room : length known < 64 = omega (arith, c.loop-sort_expr.invariant.few, c.loop-sort_expr-test.true, c.if-sort_exprs-gt-MAX_COLUMNS.false) in
     let grown : columns_of c.if-sort_expr.known ≡ known ++ cond kept (column ∷ []) [] = elim c.if-sort_expr.branch [
       | then-sort_expr w ↦ rw w.known-is (room_pushes w.push.result 64 known _ _ w.push.ensures room ∙ ap (λ b. known ++ cond b (column ∷ []) []) (sym w.if-sort_expr.true))

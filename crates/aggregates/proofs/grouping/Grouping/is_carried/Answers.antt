@@ -13,6 +13,6 @@ returns-then-len c =
     let names = names_in c.args.self.now in
     let d = dep_of c.args.dependency.now in
     let p = is_among texts names in
-    let named = c.all_pass.ensures p (λ x b q. search rules) in
+    let named = c.all_pass_by.ensures p (λ x b q. search rules) in
     let as_many : length (matched_places texts names d.sources) ≡ length d.sources = search rules in
     named ∙ ap (list_all p) c.source_indices-sources.ensures ∙ ap (λ b. b && list_all p d.sources) (sym (eq-eqb (length (matched_places texts names d.sources)) (length d.sources) as_many))

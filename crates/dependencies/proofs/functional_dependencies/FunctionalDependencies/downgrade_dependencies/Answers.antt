@@ -11,10 +11,10 @@ loop-dependence-preserved c =
     let xs = c.as_slice-dependence-items.result.now in
     let i = c.loop-dependence.dependence-index in
     let x = c.dependence-item.result in
-    let ys = list_of c.loop-dependence.stays in
+    let ys = list_of c.loop-dependence.self.deps in
     let inside : i < length xs = omega arith in
     let room : length ys < 32 = omega (arith, c.as_slice-dependence-items.ensures.few, sifted_room dep_of dep_of nullable_dep xs i survives_nulls ys c.loop-dependence.invariant (omega arith)) in
     elim c.if-survives_nulls.branch [
-      | then-survives_nulls w ↦ sifted_more dep_of dep_of nullable_dep xs i survives_nulls x ys (record x { nullable = true }) c.loop-dependence.invariant inside c.dependence-item.is (sym c.survives_nulls.ensures ∙ w.if-survives_nulls.true) refl (ap list_of w.stays-is ∙ w.push.ensures.pushed room)
-      | else-survives_nulls w ↦ sifted_skip dep_of dep_of nullable_dep xs i survives_nulls x ys c.loop-dependence.invariant inside c.dependence-item.is (sym c.survives_nulls.ensures ∙ w.if-survives_nulls.false) (ap list_of w.stays-is)
+      | then-survives_nulls w ↦ sifted_more dep_of dep_of nullable_dep xs i survives_nulls x ys (record x { nullable = true }) c.loop-dependence.invariant inside c.dependence-item.is (sym c.survives_nulls.ensures ∙ w.if-survives_nulls.true) refl (ap (λ s. list_of s.deps) w.self-is ∙ w.push.ensures.pushed room)
+      | else-survives_nulls w ↦ sifted_skip dep_of dep_of nullable_dep xs i survives_nulls x ys c.loop-dependence.invariant inside c.dependence-item.is (sym c.survives_nulls.ensures ∙ w.if-survives_nulls.false) (ap (λ s. list_of s.deps) w.self-is)
     ]

@@ -6,4 +6,4 @@ use Rattle.dependencies.specs.View.{dep_of}
 use Rattle.dependencies.proofs.functional_dependencies.FunctionalDependencies.extend_target_indices.Given as goal
 
 abbrev pub invariant-loop-dependence : goal.invariant-loop-dependence
-invariant-loop-dependence l = map dep_of (list_of l.covering) ≡ map (over_targets (columns_of l.all)) (take l.dependence-index (map dep_of l.dependence-items))
+invariant-loop-dependence l = map dep_of (list_of l.self.deps) ≡ map (over_targets (columns_of l.all)) (take l.dependence-index (map dep_of l.dependence-items))

@@ -4,7 +4,7 @@ use Rattle.std.proofs.lemmas.Iterator.Search.{any_from_yields_List}
 use Rattle.dependencies.specs.View.{dep_of}
 use Rattle.reductions.specs.Determined.{determined_by}
 use Rattle.bounded.proofs.Viewed.{list_any_map}
-use Rattle.reductions.proofs.determined.is_determined.Goals as goal
+use Rattle.reductions.proofs.determined.is_determined_by.Goals as goal
 
 pub returns : goal.returns
 returns g c = λ p says.

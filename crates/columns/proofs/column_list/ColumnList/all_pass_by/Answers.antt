@@ -2,7 +2,7 @@ use Rattle.std.proofs.Common.{rules, ap, ◌∙◌}
 use Rattle.std.specs.List.{list_all}
 use Rattle.std.proofs.lemmas.Iterator.{YieldsList-from_slice}
 use Rattle.std.proofs.lemmas.Iterator.Search.{all_from_yields_List}
-use Rattle.columns.proofs.column_list.ColumnList.all_pass.Goals as goal
+use Rattle.columns.proofs.column_list.ColumnList.all_pass_by.Goals as goal
 
 pub returns : goal.returns
 returns g c = λ p says.
